@@ -14,5 +14,3 @@ mod Judged
 mod Standings
 mod HiddenKinds
 mod BuiltTests
-mod Stated
-mod Calculating

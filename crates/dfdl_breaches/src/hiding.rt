@@ -189,7 +189,7 @@ pub(crate) fn facts_where<'c>(is_hidden: bool, facts: Facts<'c>) -> Facts<'c>
         return facts;
     }
     Facts {
-        opens_instances: false,
+        sets_variables: false,
         ..facts
     }
 }

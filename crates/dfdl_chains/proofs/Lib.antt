@@ -5,4 +5,3 @@ mod Finding
 mod Digits
 mod Naming
 mod GroupsNamed
-mod Stated

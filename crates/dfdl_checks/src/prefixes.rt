@@ -40,8 +40,7 @@ const NO_FACTS: Facts<'static> = Facts {
     },
     is_nillable: false,
     default: None,
-    opens_instances: false,
-    is_local: false,
+    sets_variables: false,
     is_empty: false,
     max_length: None,
 };
@@ -134,7 +133,6 @@ fn judged_integer<'s, 'e, 'c>(
             scheme: prefix.scheme,
             pattern_is_refused: false,
             tests: &[],
-            sets_variables: false,
             standing: NOWHERE,
             group_is_unknown: false,
         }),

@@ -3,6 +3,4 @@ mod Fitting
 mod Searches
 mod Ending
 mod Taken
-mod Noted
-mod Finishing
 mod Coming

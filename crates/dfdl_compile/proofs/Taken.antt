@@ -2,7 +2,7 @@
 use Rattle.std.proofs.Common.{◌≡◌, ℕ, ◌+◌, ◌<◌, ◌≤◌, Bool, true, false, List, [], ◌++◌, length, length-append, map, nat_lt, ◌||◌, slice_get, get_or, All, Option, None, Some, option_map, unwrap_or, ap, sym, subst, ◌∙◌, refl, arith, if◌then◌else◌}
 use Rattle.std.proofs.lemmas.List.{length-map, get_or_append_left}
 use Rattle.std.proofs.lemmas.List.Elements.{All-append}
-use Rattle.std.proofs.lemmas.List.Sums.{sum_by_more_le}
+use Rattle.std.proofs.lemmas.List.Folds.{length-flat_map-take}
 use Rattle.std.proofs.lemmas.Option.{slice_get-map, slice_get-get_or, slice_get_within}
 use Rattle.dfdl_forms.specs.declared.simple.Simple.{Simple}
 use Rattle.dfdl_constructs.specs.declared.role.Role.{Role}
@@ -16,7 +16,6 @@ use Rattle.dfdl_checks.specs.Forms.{IsWhole}
 use Rattle.dfdl_checks.specs.Numbers.{type_of}
 use Rattle.dfdl_checks.specs.Subjects.{is_sequence}
 use Rattle.dfdl_checks.specs.Representations.{no_representations}
-use Rattle.dfdl_checks.specs.declared.expression_tests.CheckForm.{CheckForm}
 use Rattle.dfdl_checks.specs.declared.prefixes.PrefixForm.{PrefixForm}
 use Rattle.dfdl_checks.specs.declared.tried.OtherRepresentations.{OtherRepresentations}
 use Rattle.dfdl_checks.specs.declared.delimiters.Delimiting.{Delimiting}
@@ -32,39 +31,36 @@ use Rattle.dfdl_chains.specs.Everywhere.{all_sites, for_each}
 use Rattle.dfdl_chains.specs.Kinds.{kind_at, kind_by, kind_of_type}
 use Rattle.dfdl_chains.specs.Parts.{is_component}
 use Rattle.dfdl_chains.proofs.Numbering.{number_below, length_all}
-use Rattle.dfdl_breaches.specs.Judging.{primitive_at as judged, form_of_prefix, judgement_at, no_judgement, others_at, built_checks_at, built_settings_at, built_tests_at, hidden_at}
+use Rattle.dfdl_breaches.specs.Judging.{primitive_at as judged, form_of_prefix, judgement_at, no_judgement, others_at, built_tests_at, hidden_at}
 use Rattle.dfdl_breaches.specs.declared.judgement.Judgement.{Judgement}
 use Rattle.dfdl_breaches.proofs.Numbering.{value-at}
-use Rattle.dfdl_terms.specs.Leaves.{ReadsBy, leaf, prefixed, grouped, scoped, calculated}
+use Rattle.dfdl_terms.specs.Leaves.{ReadsBy, leaf, prefixed, grouped, scoped}
 use Rattle.dfdl_terms.specs.Framing.{no_fill}
-use Rattle.dfdl_terms.specs.declared.statement.PatternTest.{PatternTest}
-use Rattle.dfdl_terms.specs.declared.statement.Statements.{Statements}
+use Rattle.dfdl_terms.specs.Tables.{Named}
+use Rattle.dfdl_terms.specs.declared.asserting.PatternTest.{PatternTest}
 use Rattle.dfdl_terms.specs.declared.delimiters.Delimiters.{Delimiters}
 use Rattle.dfdl_terms.specs.declared.framing.Framing.{Framing}
 use Rattle.dfdl_terms.specs.declared.occurs.Occurs.{Occurs}
 use Rattle.dfdl_terms.specs.declared.prefix.Prefix.{Prefix}
 use Rattle.dfdl_terms.specs.declared.representations.Representations.{Representations}
-use Rattle.dfdl_terms.specs.Rows.{AreWithin, AreStatements, IsElementRow, IsPrimitive, IsWithin, Table}
+use Rattle.dfdl_terms.specs.Rows.{AreWithin, HasElementLast, IsElementRow, IsPrimitive, IsWithin, Table}
 use Rattle.dfdl_terms.specs.declared.row.Primitive.{Primitive}
 use Rattle.dfdl_terms.specs.declared.row.Row.{Row}
-use Rattle.dfdl_terms.specs.declared.row.Row.TheVariants.{Leaf, Elem, Group, Skip, Align, Initiator, Terminator, Separator, Scope, Boxed, PrefixedLeaf, PrefixedBox, Repeat, Optional, Choice, Statement, Concluded, Hidden, Separated as SeparatedRow}
+use Rattle.dfdl_terms.specs.declared.row.Row.TheVariants.{Leaf, Elem, Group, Skip, Align, Initiator, Terminator, Separator, Scope, Boxed, PrefixedLeaf, PrefixedBox, Repeat, Optional, Choice, Test, Hidden, Separated as SeparatedRow}
 use Rattle.dfdl_rows.specs.Answers.{EndsWith}
-use Rattle.dfdl_rows.specs.Components.{Schema, HasDelimiters, HasList, HasPrimitive, HasBoxPrimitive, HasPrefixPrimitive, HasSeparators, HasStatements, IsBareComponent, framing_in, component_at as part_at}
+use Rattle.dfdl_rows.specs.Components.{Schema, HasDelimiters, HasList, HasPrimitive, HasBoxPrimitive, HasPrefixPrimitive, HasSeparators, HasTests, IsBareComponent, framing_in, component_at as part_at}
 use Rattle.dfdl_rows.specs.Framing.{has_framing}
 use Rattle.dfdl_rows.specs.declared.component.Separated.{Separated}
-use Rattle.dfdl_rows.specs.Leaves.{HaveLeaves, HaveBareLeaves, IsAmong, IsCalculated, IsLeafOf}
+use Rattle.dfdl_rows.specs.Leaves.{HaveLeaves, HaveBareLeaves, IsAmong, IsLeafOf}
 use Rattle.dfdl_rows.specs.declared.component.ContentBox.TheVariants.{Unbounded}
 use Rattle.dfdl_rows.specs.declared.component.Component.{Component}
-use Rattle.dfdl_rows.specs.declared.component.Component.TheVariants.{Sequence, SimpleElement, CalculatedElement, Hidden as HiddenGroup}
+use Rattle.dfdl_rows.specs.declared.component.Component.TheVariants.{Sequence, SimpleElement, Hidden as HiddenGroup}
 use Rattle.dfdl_breaches.specs.Roots.{is_global_element}
-use Rattle.dfdl_compile.specs.Components.{box_by, choice_by, component_at, components_of, delimiters_of, empty_number, empty_primitive_at, framing_of, initiator_list_at, nil_number, nil_primitive_at, number_if, prefix_by, prefix_number, prefix_primitive_at, primitive_at, primitives_of, separator_list_at, separator_number, terminator_list_at, terminator_number, tried_by, hiding_by}
-use Rattle.dfdl_compile.specs.Statements.{before_by, behind_by, count_by, counted, first_statement, if_first, if_last, is_set_first, judgements_of, noted_at, noted_of, statements_before}
+use Rattle.dfdl_compile.specs.Components.{box_by, choice_by, component_at, components_of, delimiters_of, empty_number, empty_primitive_at, framing_of, initiator_list_at, named_of, nil_number, nil_primitive_at, number_if, prefix_by, prefix_number, prefix_primitive_at, primitive_at, primitives_of, separator_list_at, separator_number, terminator_list_at, terminator_number, tests_of, tried_by, hiding_by}
+use Rattle.dfdl_compile.specs.Tests.{all_tests, first_test, judgements_of, tests_of as own_tests}
 use Rattle.dfdl_compile.specs.Delimiters.{delimiter_by, initiator_list_by, separated_by, separator_list_by, terminator_list_by}
-use Rattle.dfdl_compile.specs.Compiled.{Told, told_of}
-use Rattle.dfdl_compile.specs.Shown.{EndsWithElement}
-use Rattle.dfdl_compile.specs.Primitives.{CalculatesType, HasTypedLeaves, HasBareTypedLeaves, HasWrittenText, IsLeafOfType, IsOfType, a_byte, empty_primitive_by, nil_primitive_by, prefix_primitive_by, primitive_by, primitive_if}
+use Rattle.dfdl_compile.specs.Primitives.{HasTypedLeaves, HasBareTypedLeaves, HasWrittenText, IsLeafOfType, IsOfType, a_byte, empty_primitive_by, nil_primitive_by, prefix_primitive_by, primitive_by, primitive_if}
 use Rattle.dfdl_compile.proofs.Fitting.{all_within, each, made, made_is, of_kind, twice}
-use Rattle.dfdl_compile.proofs.Noted.{length_noted}
 use Rattle.dfdl_compile.proofs.Hiding.{judgement_if, none_hidden, none_unparsed}
 
 -- what holds of a byte, of each primitive that is judged, of that of each prefix, and of those of each nil and each empty
@@ -166,7 +162,7 @@ tables_are purpose refused documents judgements tables told are =
     empties = at_each empty_primitive_by
 
 -- so are the lists of delimiters
-pub lists_are : (purpose : Purpose) (refused : Site → Bool) (documents : List SchemaDocument) (judgements : List Judgement) (lists : List Delimiters)
+lists_are : (purpose : Purpose) (refused : Site → Bool) (documents : List SchemaDocument) (judgements : List Judgement) (lists : List Delimiters)
     → judgements ≡ for_each documents (judgement_at purpose refused documents)
     → lists ≡ map initiator_list_by judgements ++ (map terminator_list_by judgements ++ map separator_list_by judgements)
     → lists ≡ delimiters_of purpose refused documents
@@ -175,6 +171,20 @@ lists_are purpose refused documents judgements lists told are = are ∙ (λ i. a
   where
     at_each : (f : Judgement → Delimiters) → map f judgements ≡ for_each documents (λ (s : Site). f (judgement_at purpose refused documents s))
     at_each f = ap (map f) told ∙ twice f (judgement_at purpose refused documents) (all_sites documents)
+
+-- what rows name is what those of the documents do
+pub named_are : (purpose : Purpose) (refused : Site → Bool) (documents : List SchemaDocument) (judgements : List Judgement) (tables : Named)
+    → judgements ≡ for_each documents (judgement_at purpose refused documents)
+    → tables.primitives ≡ map primitive_by judgements
+    ++ (map prefix_primitive_by judgements ++ (map nil_primitive_by judgements ++ map empty_primitive_by judgements))
+    → tables.delimiters ≡ map initiator_list_by judgements ++ (map terminator_list_by judgements ++ map separator_list_by judgements)
+    → tables.tests ≡ all_tests judgements → tables ≡ named_of purpose refused documents
+unfolding tests_of
+named_are purpose refused documents judgements tables told primitives lists tests =
+    let prims = tables_are purpose refused documents judgements tables.primitives told primitives in
+    let delimiters = lists_are purpose refused documents judgements tables.delimiters told lists in
+    let own : tables.tests ≡ tests_of purpose refused documents = tests ∙ ap all_tests told in
+    λ i. record { primitives = prims i; delimiters = delimiters i; tests = own i }
 
 -- it keeps the bounds of its type, if its text is one of characters
 abbrev IsBoundedIf : Primitive → Type 0
@@ -290,10 +300,9 @@ module _ (purpose : Purpose) (refused : Site → Bool) (documents : List SchemaD
       by_kind kind.ComplexElement = by_box (judgement_at purpose refused documents own).size (judgement_at purpose refused documents own).prefix
       by_kind (kind.SimpleElement simple) = (own_below, by_prefix (judgement_at purpose refused documents own).prefix, by_others (judgement_at purpose refused documents own).others)
       by_kind kind.UncarriedElement = (own_below, by_prefix (judgement_at purpose refused documents own).prefix, by_others (judgement_at purpose refused documents own).others)
-      by_kind (kind.CalculatedElement simple) = (own_below, by_prefix (judgement_at purpose refused documents own).prefix, by_others (judgement_at purpose refused documents own).others)
       by_kind kind.Sequence = tt
       by_kind kind.HiddenSequence = tt
-      by_kind kind.Choice = by_choice purpose (framing_of documents (first_statement purpose refused documents own) own (judgement_at purpose refused documents own))
+      by_kind kind.Choice = by_choice purpose (framing_of documents (first_test purpose refused documents own) own (judgement_at purpose refused documents own))
           (option_map (separated_by (separator_number documents own)) (judgement_at purpose refused documents own).markup.separator)
           (judgement_at purpose refused documents own).initiates
       by_kind (kind.PrefixNumber simple) = tt
@@ -325,12 +334,12 @@ module _ (purpose : Purpose) (refused : Site → Bool) (documents : List SchemaD
       by_separator number below None = tt
       by_separator number below (Some separator) = below
 
-      initiated : HasList count_lists (framing_of documents (first_statement purpose refused documents own) own (judgement_at purpose refused documents own)).initiator
+      initiated : HasList count_lists (framing_of documents (first_test purpose refused documents own) own (judgement_at purpose refused documents own)).initiator
       initiated =
           let below = number_below documents own within in
           by_list (number_of documents own) (omega (arith, below)) (judgement_at purpose refused documents own).markup.initiator
 
-      terminated : HasList count_lists (framing_of documents (first_statement purpose refused documents own) own (judgement_at purpose refused documents own)).terminator
+      terminated : HasList count_lists (framing_of documents (first_test purpose refused documents own) own (judgement_at purpose refused documents own)).terminator
       terminated =
           let below = number_below documents own within in
           by_list (terminator_number documents own) (omega (arith, below)) (judgement_at purpose refused documents own).markup.terminator
@@ -340,7 +349,7 @@ module _ (purpose : Purpose) (refused : Site → Bool) (documents : List SchemaD
           let below = number_below documents own within in
           by_separator (separator_number documents own) (omega (arith, below)) (judgement_at purpose refused documents own).markup.separator
 
-      by_choice : (q : Purpose) → HasDelimiters count_lists (choice_by q (framing_of documents (first_statement purpose refused documents own) own (judgement_at purpose refused documents own))
+      by_choice : (q : Purpose) → HasDelimiters count_lists (choice_by q (framing_of documents (first_test purpose refused documents own) own (judgement_at purpose refused documents own))
           (option_map (separated_by (separator_number documents own)) (judgement_at purpose refused documents own).markup.separator)
           (judgement_at purpose refused documents own).initiates)
       by_choice Parsing = (initiated, terminated, tt)
@@ -350,7 +359,6 @@ module _ (purpose : Purpose) (refused : Site → Bool) (documents : List SchemaD
       by_kind kind.ComplexElement = (initiated, terminated, tt)
       by_kind (kind.SimpleElement simple) = (initiated, terminated, tt)
       by_kind kind.UncarriedElement = (initiated, terminated, tt)
-      by_kind (kind.CalculatedElement simple) = (initiated, terminated, tt)
       by_kind kind.Sequence = (initiated, terminated, separated)
       by_kind kind.HiddenSequence = (initiated, terminated, separated)
       by_kind kind.Choice = by_choice purpose
@@ -379,68 +387,48 @@ module _ (purpose : Purpose) (refused : Site → Bool) (documents : List SchemaD
       (each (IsSite documents) (HasDelimiters count_lists) (component_at purpose refused documents) has_lists
       (all_sites documents) (all_within documents)))
 
-  -- the statements of an element are some of all
-  counted_within : (own : Site) → IsSite documents own
-      → first_statement purpose refused documents own + count_by (judgement_at purpose refused documents own) ≤ counted (judgements_of purpose refused documents)
-  counted_within own within =
+  -- the tests of an element are some of all
+  tests_fit : (own : Site) → IsSite documents own
+      → first_test purpose refused documents own + length (judgement_at purpose refused documents own).tests ≤ length (tests_of purpose refused documents)
+  unfolding tests_of
+  tests_fit own within =
       let below : number_of documents own < length (judgements_of purpose refused documents)
       = let low = number_below documents own within in
       omega (arith, low, length-map (all_sites documents) (judgement_at purpose refused documents), length_all documents) in
-      let fit = sum_by_more_le count_by (judgements_of purpose refused documents) (number_of documents own) no_judgement below in
+      let fit = length-flat_map-take own_tests (judgements_of purpose refused documents) (number_of documents own) no_judgement below in
       let same : get_or (judgements_of purpose refused documents) (number_of documents own) no_judgement ≡ judgement_at purpose refused documents own
       = value-at documents (judgement_at purpose refused documents) own no_judgement within in
-      subst (λ (j : Judgement). first_statement purpose refused documents own + count_by j ≤ counted (judgements_of purpose refused documents)) same fit
+      subst (λ (j : Judgement). first_test purpose refused documents own + length j.tests ≤ length (all_tests (judgements_of purpose refused documents))) same fit
 
-  -- how many there are
-  abbrev count_statements : ℕ
-  count_statements = counted (judgements_of purpose refused documents)
-
-  before_within : (first : ℕ) (is_first : Bool) (told : Judgement) → first + count_by told ≤ count_statements
-      → AreStatements count_statements (before_by is_first first told)
-  before_within first true told fit = omega (arith, fit)
-  before_within first false told fit = omega (arith, fit)
-
-  behind_within : (first : ℕ) (is_first : Bool) (told : Judgement) → first + count_by told ≤ count_statements
-      → AreStatements count_statements (behind_by is_first first told)
-  behind_within first true told fit = omega (arith, fit)
-  behind_within first false told fit = omega (arith, fit)
-
-  has_statements : (own : Site) → IsSite documents own → HasStatements count_statements (component_at purpose refused documents own)
-  has_statements own within =
-      by_hiding (HasStatements count_statements) (judgement_at purpose refused documents own).hidden
-      (of_kind purpose refused documents own (kind_at documents own)) (omega arith, omega arith, tt) (by_kind (kind_at documents own))
+  has_tests : (own : Site) → IsSite documents own → HasTests (length (tests_of purpose refused documents)) (component_at purpose refused documents own)
+  has_tests own within =
+      by_hiding (HasTests (length (tests_of purpose refused documents))) (judgement_at purpose refused documents own).hidden
+      (of_kind purpose refused documents own (kind_at documents own)) (omega arith) (by_kind (kind_at documents own))
     where
-      before : AreStatements count_statements (framing_of documents (first_statement purpose refused documents own) own (judgement_at purpose refused documents own)).before
-      before = before_within (first_statement purpose refused documents own) (is_set_first (kind_at documents own)) (judgement_at purpose refused documents own) (counted_within own within)
-
-      behind : AreStatements count_statements (framing_of documents (first_statement purpose refused documents own) own (judgement_at purpose refused documents own)).behind
-      behind = behind_within (first_statement purpose refused documents own) (is_set_first (kind_at documents own)) (judgement_at purpose refused documents own) (counted_within own within)
-
-      by_choice : (q : Purpose) → HasStatements count_statements
-          (choice_by q (framing_of documents (first_statement purpose refused documents own) own (judgement_at purpose refused documents own))
+      by_choice : (q : Purpose) → HasTests (length (tests_of purpose refused documents))
+          (choice_by q (framing_of documents (first_test purpose refused documents own) own (judgement_at purpose refused documents own))
           (option_map (separated_by (separator_number documents own)) (judgement_at purpose refused documents own).markup.separator)
           (judgement_at purpose refused documents own).initiates)
-      by_choice Parsing = (before, behind, tt)
-      by_choice Unparsing = (before, behind, tt)
+      by_choice Parsing = tests_fit own within
+      by_choice Unparsing = tests_fit own within
 
-      by_kind : (k : Kind) → HasStatements count_statements (of_kind purpose refused documents own k)
-      by_kind kind.ComplexElement = (before, behind, tt)
-      by_kind (kind.SimpleElement simple) = (before, behind, tt)
-      by_kind kind.UncarriedElement = (before, behind, tt)
-      by_kind (kind.CalculatedElement simple) = (before, behind, tt)
-      by_kind kind.Sequence = (before, behind, tt)
-      by_kind kind.HiddenSequence = (before, behind, tt)
+      by_kind : (k : Kind) → HasTests (length (tests_of purpose refused documents)) (of_kind purpose refused documents own k)
+      by_kind kind.ComplexElement = tests_fit own within
+      by_kind (kind.SimpleElement simple) = tests_fit own within
+      by_kind kind.UncarriedElement = tests_fit own within
+      by_kind kind.Sequence = tests_fit own within
+      by_kind kind.HiddenSequence = tests_fit own within
       by_kind kind.Choice = by_choice purpose
-      by_kind (kind.PrefixNumber simple) = (before, behind, tt)
+      by_kind (kind.PrefixNumber simple) = tests_fit own within
 
-  -- the statements of each component are some of those that are noted
-  pub have_statements : (schema : Schema) (count : ℕ) → schema ≡ components_of purpose refused documents
-      → count ≡ length (noted_of purpose refused documents) → All (HasStatements count) schema.components
+  -- the tests of each component are in the table
+  pub have_tests : (schema : Schema) (tests : List PatternTest) → schema ≡ components_of purpose refused documents
+      → tests ≡ tests_of purpose refused documents → All (HasTests (length tests)) schema.components
   unfolding components_of
-  have_statements schema count schema_is count_is =
-      subst (λ (n : ℕ). All (HasStatements n) schema.components) (sym (count_is ∙ length_noted purpose refused documents))
-      (subst (λ (s : Schema). All (HasStatements count_statements) s.components) (sym schema_is)
-      (each (IsSite documents) (HasStatements count_statements) (component_at purpose refused documents) has_statements
+  have_tests schema tests schema_is tests_are =
+      subst (λ (ts : List PatternTest). All (HasTests (length ts)) schema.components) (sym tests_are)
+      (subst (λ (s : Schema). All (HasTests (length (tests_of purpose refused documents))) s.components) (sym schema_is)
+      (each (IsSite documents) (HasTests (length (tests_of purpose refused documents))) (component_at purpose refused documents) has_tests
       (all_sites documents) (all_within documents)))
 
   -- a component that is a simple element has the type of its primitive, and the primitive's number
@@ -459,10 +447,9 @@ module _ (purpose : Purpose) (refused : Site → Bool) (documents : List SchemaD
       by_kind kind.ComplexElement is = absurd (cc)
       by_kind (kind.SimpleElement other) is = (cc, cc)
       by_kind kind.UncarriedElement is = (cc, cc)
-      by_kind (kind.CalculatedElement other) is = (cc, cc)
       by_kind kind.Sequence is = absurd (cc)
       by_kind kind.HiddenSequence is = absurd (cc)
-      by_kind kind.Choice is = absurd (no_choice purpose (framing_of documents (first_statement purpose refused documents own) own (judgement_at purpose refused documents own))
+      by_kind kind.Choice is = absurd (no_choice purpose (framing_of documents (first_test purpose refused documents own) own (judgement_at purpose refused documents own))
           (option_map (separated_by (separator_number documents own)) (judgement_at purpose refused documents own).markup.separator)
           (judgement_at purpose refused documents own).initiates is)
       by_kind (kind.PrefixNumber other) is = absurd (cc)
@@ -509,7 +496,7 @@ module _ (purpose : Purpose) (refused : Site → Bool) (documents : List SchemaD
   leaf_typed : (simple : Simple) (o : Option Row) → IsLeafOf (map (component_at purpose refused documents) (all_sites documents)) simple o
       → IsLeafOfType (primitives_of purpose refused documents) simple o
   leaf_typed simple (Some (Leaf prim)) one = among_typed simple prim one
-  leaf_typed simple (Some (Elem name other tried behind body)) one = absurd one
+  leaf_typed simple (Some (Elem name other tried body)) one = absurd one
   leaf_typed simple (Some (Group children)) one = absurd one
   leaf_typed simple (Some (Skip bits)) one = absurd one
   leaf_typed simple (Some (Align bits)) one = absurd one
@@ -523,93 +510,41 @@ module _ (purpose : Purpose) (refused : Site → Bool) (documents : List SchemaD
   leaf_typed simple (Some (Repeat count inside)) one = absurd one
   leaf_typed simple (Some (Optional most item initiated inside)) one = absurd one
   leaf_typed simple (Some (Choice branches initiated)) one = absurd one
-  leaf_typed simple (Some (Statement statement)) one = absurd one
-  leaf_typed simple (Some (Concluded behind inside)) one = absurd one
+  leaf_typed simple (Some (Test test)) one = absurd one
   leaf_typed simple (Some (Hidden inside)) one = absurd one
   leaf_typed simple (Some (SeparatedRow policy position initiated slots)) one = absurd one
   leaf_typed simple None one = absurd one
 
-  -- no element's value is calculated
-  uncalculated : (own : Site) (name : List ℕ) (simple : Simple) (statement : ℕ) (framing : Framing)
-      → component_at purpose refused documents own ≡ CalculatedElement name simple statement framing → ⊥
-  uncalculated own name simple statement framing = by_hidden (judgement_at purpose refused documents own).hidden
-    where
-      no_choice : (q : Purpose) (f : Framing) (separated : Option Separated) (initiated : Bool)
-          → choice_by q f separated initiated ≡ CalculatedElement name simple statement framing → ⊥
-      no_choice Parsing f separated initiated is = cc
-      no_choice Unparsing f separated initiated is = cc
-
-      by_kind : (k : Kind) → of_kind purpose refused documents own k ≡ CalculatedElement name simple statement framing → ⊥
-      by_kind kind.ComplexElement is = cc
-      by_kind (kind.SimpleElement other) is = cc
-      by_kind kind.UncarriedElement is = cc
-      by_kind (kind.CalculatedElement other) is = cc
-      by_kind kind.Sequence is = cc
-      by_kind kind.HiddenSequence is = cc
-      by_kind kind.Choice is = no_choice purpose (framing_of documents (first_statement purpose refused documents own) own (judgement_at purpose refused documents own))
-          (option_map (separated_by (separator_number documents own)) (judgement_at purpose refused documents own).markup.separator)
-          (judgement_at purpose refused documents own).initiates is
-      by_kind (kind.PrefixNumber other) is = cc
-
-      by_hidden : (hidden : Option Site) → hiding_by hidden (of_kind purpose refused documents own (kind_at documents own)) ≡ CalculatedElement name simple statement framing → ⊥
-      by_hidden None is = by_kind (kind_at documents own) is
-      by_hidden (Some content) is = cc
-
-  none_calculated : (simple : Simple) (statement : ℕ) → IsCalculated (map (component_at purpose refused documents) (all_sites documents)) simple statement → ⊥
-  none_calculated simple statement (number, name, framing, is) =
-      let less : number < length (all_sites documents) = omega (
-        arith,
-        slice_get_within (map (component_at purpose refused documents) (all_sites documents)) number (CalculatedElement name simple statement framing) is,
-        length-map (all_sites documents) (component_at purpose refused documents),
-      ) in
-      let own : Site = get_or (all_sites documents) number (site 0 0) in
-      let found : Some (component_at purpose refused documents own) ≡ Some (CalculatedElement name simple statement framing) =
-      sym (slice_get-map (component_at purpose refused documents) (all_sites documents) number
-      ∙ ap (option_map (component_at purpose refused documents)) (slice_get-get_or (all_sites documents) number (site 0 0) less)) ∙ is in
-      let same : component_at purpose refused documents own ≡ CalculatedElement name simple statement framing = cc in
-      uncalculated own name simple statement framing same
-
   -- what the body of a simple element reads has the element's type
-  reads_typed : (t : Table) (simple : Simple) (id : ℕ)
-      → ReadsBy t.rows (IsAmong (map (component_at purpose refused documents) (all_sites documents)) simple)
-      (IsCalculated (map (component_at purpose refused documents) (all_sites documents)) simple) id
-      → ReadsBy t.rows (λ prim. IsOfType simple (slice_get (primitives_of purpose refused documents) prim))
-      (λ number. CalculatesType simple (slice_get t.statements number)) id
-  reads_typed t simple id (leaf _ prim is among) = leaf id prim is (among_typed simple prim among)
-  reads_typed t simple id (prefixed _ prim prefix is among) = prefixed id prim prefix is (among_typed simple prim among)
-  reads_typed t simple id (grouped _ at child children is there reads) = grouped id at child children is there (reads_typed t simple child reads)
-  reads_typed t simple id (scoped _ list body is reads) = scoped id list body is (reads_typed t simple body reads)
-  reads_typed t simple id (calculated _ number is one) = absurd (none_calculated simple number one)
+  reads_typed : (rows : List Row) (simple : Simple) (id : ℕ) → ReadsBy rows (IsAmong (map (component_at purpose refused documents) (all_sites documents)) simple) id
+      → ReadsBy rows (λ prim. IsOfType simple (slice_get (primitives_of purpose refused documents) prim)) id
+  reads_typed rows simple id (leaf _ prim is among) = leaf id prim is (among_typed simple prim among)
+  reads_typed rows simple id (prefixed _ prim prefix is among) = prefixed id prim prefix is (among_typed simple prim among)
+  reads_typed rows simple id (grouped _ at child children is there reads) = grouped id at child children is there (reads_typed rows simple child reads)
+  reads_typed rows simple id (scoped _ list body is reads) = scoped id list body is (reads_typed rows simple body reads)
 
   -- each simple element is read by a primitive of its type
-  pub leaves_typed : (t : Table) (made : List Row) → t.rows ≡ made → t.primitives ≡ primitives_of purpose refused documents
-      → HaveLeaves (components_of purpose refused documents).components made → HasTypedLeaves t
+  pub leaves_typed : (schema : Schema) (t : Table) → schema ≡ components_of purpose refused documents → t.primitives ≡ primitives_of purpose refused documents
+      → HaveLeaves schema.components t.rows → HasTypedLeaves t
   unfolding components_of
-  leaves_typed t made rows_are primitives_are leaves row name simple tried behind body is =
-      subst (λ (ps : List Primitive). ReadsBy t.rows (λ prim. IsOfType simple (slice_get ps prim)) (λ number. CalculatesType simple (slice_get t.statements number)) body)
-      (sym primitives_are)
-      (reads_typed t simple body
-      (subst (λ (rs : List Row). ReadsBy rs (IsAmong (components_of purpose refused documents).components simple)
-      (IsCalculated (components_of purpose refused documents).components simple) body) (sym rows_are)
-      (leaves row name simple tried behind body
-      (subst (λ (rs : List Row). slice_get rs row ≡ Some (Elem name (Some simple) tried behind body)) rows_are is))))
+  leaves_typed schema t schema_is primitives_are leaves row name simple tried body is =
+      subst (λ (ps : List Primitive). ReadsBy t.rows (λ prim. IsOfType simple (slice_get ps prim)) body) (sym primitives_are)
+      (reads_typed t.rows simple body
+      (subst (λ (s : Schema). ReadsBy t.rows (IsAmong s.components simple) body) schema_is (leaves row name simple tried body is)))
 
   -- the same, where each is read by a leaf
-  pub bare_typed : (t : Table) (made : List Row) → t.rows ≡ made → t.primitives ≡ primitives_of purpose refused documents
-      → HaveBareLeaves (components_of purpose refused documents).components made → HasBareTypedLeaves t
+  pub bare_typed : (schema : Schema) (t : Table) → schema ≡ components_of purpose refused documents → t.primitives ≡ primitives_of purpose refused documents
+      → HaveBareLeaves schema.components t.rows → HasBareTypedLeaves t
   unfolding components_of
-  bare_typed t made rows_are primitives_are leaves row name simple tried behind body is =
+  bare_typed schema t schema_is primitives_are leaves row name simple tried body is =
       subst (λ (ps : List Primitive). IsLeafOfType ps simple (slice_get t.rows body)) (sym primitives_are)
       (leaf_typed simple (slice_get t.rows body)
-      (subst (λ (rs : List Row). IsLeafOf (components_of purpose refused documents).components simple (slice_get rs body)) (sym rows_are)
-      (leaves row name simple tried behind body
-      (subst (λ (rs : List Row). slice_get rs row ≡ Some (Elem name (Some simple) tried behind body)) rows_are is))))
+      (subst (λ (s : Schema). IsLeafOf s.components simple (slice_get t.rows body)) schema_is (leaves row name simple tried body is)))
 
--- neither a statement nor fill nor a delimiter nor a separator nor a box nor a length prefix is told of an element, and it occurs once, which
+-- neither a test nor fill nor a delimiter nor a separator nor a box nor a length prefix is told of an element, and it occurs once, which
 -- isn't tried
 record IsBare (documents : List SchemaDocument) (first : ℕ) (own : Site) (told : Judgement) : Type 0 where
   unframed : has_framing (framing_of documents first own told) ≡ false
-  unconcluded : (framing_of documents first own told).behind.count ≡ 0
   unboxed : told.size ≡ None
   unprefixed : told.prefix ≡ None
   unseparated : told.markup.separator ≡ None
@@ -620,57 +555,11 @@ record IsBare (documents : List SchemaDocument) (first : ℕ) (own : Site) (told
 module _ (refused : Site → Bool) (documents : List SchemaDocument)
     (none : (refused : Site → Bool) (documents : List SchemaDocument) (own : Site) → form_of_prefix Unparsing refused documents own ≡ None)
     (untested : (refused : Site → Bool) (documents : List SchemaDocument) (own : Site) → built_tests_at Unparsing refused documents own ≡ [])
-    (unchecked : (refused : Site → Bool) (documents : List SchemaDocument) (own : Site) → built_checks_at Unparsing refused documents own ≡ [])
-    (unset : (documents : List SchemaDocument) (own : Site) → built_settings_at Unparsing documents own ≡ [])
     (unhidden : (documents : List SchemaDocument) (own : Site) → hidden_at Unparsing documents own ≡ None) where
-  none_first : (b : Bool) (n : ℕ) → n ≡ 0 → if_first b n ≡ 0
-  none_first true n is = is
-  none_first false n is = refl
-
-  none_last : (b : Bool) (n : ℕ) → n ≡ 0 → if_last b n ≡ 0
-  none_last true n is = refl
-  none_last false n is = is
-
-  none_before : (own : Site) (b : Bool) → length (built_tests_at Unparsing refused documents own) + if_first b (length (built_settings_at Unparsing documents own)) ≡ 0
-  none_before own b =
-      let tests = ap (λ (ts : List PatternTest). length ts) (untested refused documents own) in
-      let settings = none_first b (length (built_settings_at Unparsing documents own)) (ap (λ (ss : List Site). length ss) (unset documents own)) in
-      omega (arith, tests, settings)
-
-  none_behind : (own : Site) (b : Bool) → if_last b (length (built_settings_at Unparsing documents own)) + length (built_checks_at Unparsing refused documents own) ≡ 0
-  none_behind own b =
-      let checks = ap (λ (cs : List CheckForm). length cs) (unchecked refused documents own) in
-      let settings = none_last b (length (built_settings_at Unparsing documents own)) (ap (λ (ss : List Site). length ss) (unset documents own)) in
-      omega (arith, checks, settings)
-
-  nothing_before : (b : Bool) → 0 + if_first b 0 ≡ 0
-  nothing_before true = refl
-  nothing_before false = refl
-
-  nothing_behind : (b : Bool) → if_last b 0 + 0 ≡ 0
-  nothing_behind true = refl
-  nothing_behind false = refl
-
   bare_by : (first : ℕ) (own : Site) (b : Bool) → IsBare documents first own (judgement_if Unparsing refused documents own b)
   unfolding judgement_if
-  bare_by first own true = record {
-    unframed = ap (λ (count : ℕ). nat_lt 0 count || false || false || false || false || false) (none_before own (is_set_first (kind_at documents own)));
-    unconcluded = none_behind own (is_set_first (kind_at documents own));
-    unboxed = refl;
-    unprefixed = none refused documents own;
-    unseparated = refl;
-    once = omega arith;
-    untried = refl;
-  }
-  bare_by first own false = record {
-    unframed = ap (λ (count : ℕ). nat_lt 0 count || false || false || false || false || false) (nothing_before (is_set_first (kind_at documents own)));
-    unconcluded = nothing_behind (is_set_first (kind_at documents own));
-    unboxed = refl;
-    unprefixed = refl;
-    unseparated = refl;
-    once = omega arith;
-    untried = refl;
-  }
+  bare_by first own true = record { unframed = ap (λ (tests : List PatternTest). nat_lt 0 (length tests) || false || false || false || false || false) (untested refused documents own); unboxed = refl; unprefixed = none refused documents own; unseparated = refl; once = omega arith; untried = refl }
+  bare_by first own false = record { unframed = refl; unboxed = refl; unprefixed = refl; unseparated = refl; once = omega arith; untried = refl }
 
   bare_judgement : (first : ℕ) (own : Site) → IsBare documents first own (judgement_at Unparsing refused documents own)
   unfolding judgement_at judgement_if
@@ -680,8 +569,8 @@ module _ (refused : Site → Bool) (documents : List SchemaDocument)
   bare_component : (own : Site) → IsBareComponent (component_at Unparsing refused documents own)
   bare_component own = by_hidden (judgement_at Unparsing refused documents own).hidden (none_unparsed refused documents own (unhidden documents own))
     where
-      told : IsBare documents (first_statement Unparsing refused documents own) own (judgement_at Unparsing refused documents own)
-      told = bare_judgement (first_statement Unparsing refused documents own) own
+      told : IsBare documents (first_test Unparsing refused documents own) own (judgement_at Unparsing refused documents own)
+      told = bare_judgement (first_test Unparsing refused documents own) own
 
       by_prefix : (o : Option PrefixForm) → o ≡ None → option_map (prefix_by (prefix_number documents own)) o ≡ None
       by_prefix None is = refl
@@ -707,14 +596,13 @@ module _ (refused : Site → Bool) (documents : List SchemaDocument)
       unseparated = by_separator (judgement_at Unparsing refused documents own).markup.separator told.unseparated
 
       by_kind : (k : Kind) → IsBareComponent (of_kind Unparsing refused documents own k)
-      by_kind kind.ComplexElement = record { unframed = told.unframed; unconcluded = told.unconcluded; unboxed = unboxed; unprefixed = refl; unseparated = refl; unchosen = refl; unhidden = refl; uncalculated = refl; once = told.once; untried = told.untried }
-      by_kind (kind.SimpleElement simple) = record { unframed = told.unframed; unconcluded = told.unconcluded; unboxed = refl; unprefixed = unprefixed; unseparated = refl; unchosen = refl; unhidden = refl; uncalculated = refl; once = told.once; untried = told.untried }
-      by_kind kind.UncarriedElement = record { unframed = told.unframed; unconcluded = told.unconcluded; unboxed = refl; unprefixed = unprefixed; unseparated = refl; unchosen = refl; unhidden = refl; uncalculated = refl; once = told.once; untried = told.untried }
-      by_kind (kind.CalculatedElement simple) = record { unframed = told.unframed; unconcluded = told.unconcluded; unboxed = refl; unprefixed = unprefixed; unseparated = refl; unchosen = refl; unhidden = refl; uncalculated = refl; once = told.once; untried = told.untried }
-      by_kind kind.Sequence = record { unframed = told.unframed; unconcluded = told.unconcluded; unboxed = refl; unprefixed = refl; unseparated = unseparated; unchosen = refl; unhidden = refl; uncalculated = refl; once = omega arith; untried = refl }
-      by_kind kind.HiddenSequence = record { unframed = told.unframed; unconcluded = told.unconcluded; unboxed = refl; unprefixed = refl; unseparated = unseparated; unchosen = refl; unhidden = refl; uncalculated = refl; once = omega arith; untried = refl }
-      by_kind kind.Choice = record { unframed = told.unframed; unconcluded = told.unconcluded; unboxed = refl; unprefixed = refl; unseparated = unseparated; unchosen = refl; unhidden = refl; uncalculated = refl; once = omega arith; untried = refl }
-      by_kind (kind.PrefixNumber simple) = record { unframed = told.unframed; unconcluded = told.unconcluded; unboxed = refl; unprefixed = refl; unseparated = unseparated; unchosen = refl; unhidden = refl; uncalculated = refl; once = omega arith; untried = refl }
+      by_kind kind.ComplexElement = record { unframed = told.unframed; unboxed = unboxed; unprefixed = refl; unseparated = refl; unchosen = refl; unhidden = refl; once = told.once; untried = told.untried }
+      by_kind (kind.SimpleElement simple) = record { unframed = told.unframed; unboxed = refl; unprefixed = unprefixed; unseparated = refl; unchosen = refl; unhidden = refl; once = told.once; untried = told.untried }
+      by_kind kind.UncarriedElement = record { unframed = told.unframed; unboxed = refl; unprefixed = unprefixed; unseparated = refl; unchosen = refl; unhidden = refl; once = told.once; untried = told.untried }
+      by_kind kind.Sequence = record { unframed = told.unframed; unboxed = refl; unprefixed = refl; unseparated = unseparated; unchosen = refl; unhidden = refl; once = omega arith; untried = refl }
+      by_kind kind.HiddenSequence = record { unframed = told.unframed; unboxed = refl; unprefixed = refl; unseparated = unseparated; unchosen = refl; unhidden = refl; once = omega arith; untried = refl }
+      by_kind kind.Choice = record { unframed = told.unframed; unboxed = refl; unprefixed = refl; unseparated = unseparated; unchosen = refl; unhidden = refl; once = omega arith; untried = refl }
+      by_kind (kind.PrefixNumber simple) = record { unframed = told.unframed; unboxed = refl; unprefixed = refl; unseparated = unseparated; unchosen = refl; unhidden = refl; once = omega arith; untried = refl }
 
       by_hidden : (hidden : Option Site) → hidden ≡ None → IsBareComponent (hiding_by hidden (of_kind Unparsing refused documents own (kind_at documents own)))
       by_hidden None is = by_kind (kind_at documents own)
@@ -727,11 +615,11 @@ module _ (refused : Site → Bool) (documents : List SchemaDocument)
       (each (IsSite documents) IsBareComponent (component_at Unparsing refused documents) (λ own within. bare_component own) (all_sites documents) (all_within documents))
 
 -- the row of an element of a type is an element
-typed_last : (made : List Row) (purpose : Purpose) (refused : Site → Bool) (documents : List SchemaDocument) (own : Site) (typed : Typed)
-    → EndsWith (of_kind purpose refused documents own (kind_of_type typed)) made → EndsWithElement made
-typed_last made purpose refused documents own (Carried simple) ends = subst IsElementRow (sym ends) tt
-typed_last made purpose refused documents own NotCarried ends = subst IsElementRow (sym ends) tt
-typed_last made purpose refused documents own (Defined type) ends = subst IsElementRow (sym ends) tt
+typed_last : (t : Table) (purpose : Purpose) (refused : Site → Bool) (documents : List SchemaDocument) (own : Site) (typed : Typed)
+    → EndsWith (of_kind purpose refused documents own (kind_of_type typed)) t.rows → HasElementLast t
+typed_last t purpose refused documents own (Carried simple) ends = subst IsElementRow (sym ends) tt
+typed_last t purpose refused documents own NotCarried ends = subst IsElementRow (sym ends) tt
+typed_last t purpose refused documents own (Defined type) ends = subst IsElementRow (sym ends) tt
 
 global_role : (r : Role) → is_global_element r ≡ true → r ≡ role.GlobalElement
 global_role role.GlobalElement is = refl
@@ -762,13 +650,13 @@ unfolding components_of
 at_root purpose refused documents root within = value-at documents (component_at purpose refused documents) root (Sequence no_fill None false) within
 
 -- the last row is an element, where the root is one
-pub root_element : (purpose : Purpose) (refused : Site → Bool) (documents : List SchemaDocument) (root : Site) (schema : Schema) (number : ℕ) (made : List Row)
+pub root_element : (purpose : Purpose) (refused : Site → Bool) (documents : List SchemaDocument) (root : Site) (schema : Schema) (number : ℕ) (t : Table)
     → schema ≡ components_of purpose refused documents
     → number ≡ number_of documents root → IsSite documents root → is_global_element (role_of documents root) ≡ true
-    → EndsWith (part_at schema.components number) made → EndsWithElement made
-root_element purpose refused documents root schema number made schema_is number_is within global ends =
-    typed_last made purpose refused documents root (element_type documents root)
-    (subst (λ (k : Component). EndsWith k made)
+    → EndsWith (part_at schema.components number) t.rows → HasElementLast t
+root_element purpose refused documents root schema number t schema_is number_is within global ends =
+    typed_last t purpose refused documents root (element_type documents root)
+    (subst (λ (k : Component). EndsWith k t.rows)
     (ap (λ (s : Schema). part_at s.components number) schema_is
     ∙ (ap (λ (n : ℕ). part_at (components_of purpose refused documents).components n) number_is
     ∙ (at_root purpose refused documents root within ∙ global_is purpose refused documents root global))) ends)

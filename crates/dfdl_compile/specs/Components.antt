@@ -3,12 +3,9 @@
 -- Model').
 use Rattle.std.specs.Prelude.{ℕ, ◌+◌, Bool, List, [], ◌∷◌, ◌++◌, map, Option, None, Some, option_map, codes}
 use Rattle.std.specs.Option.{unwrap_or}
-use Rattle.dfdl_report.specs.declared.cause.SchemaCause.TheVariants.{OutsideSubset}
-use Rattle.dfdl_report.specs.declared.place.Place.{Place}
 use Rattle.dfdl_documents.specs.Documents.{SchemaDocument}
 use Rattle.dfdl_components.specs.declared.site.Site.{Site}
 use Rattle.dfdl_components.specs.Recursion.{count_of, number_of}
-use Rattle.dfdl_components.specs.Searching.{or_else}
 use Rattle.dfdl_checks.specs.Numbers.{type_of}
 use Rattle.dfdl_checks.specs.declared.tried.OtherRepresentations.{OtherRepresentations}
 use Rattle.dfdl_checks.specs.declared.prefixes.PrefixForm.{PrefixForm}
@@ -37,7 +34,9 @@ use Rattle.dfdl_rows.specs.declared.component.Component.TheVariants.{Sequence, C
 use Rattle.dfdl_rows.specs.declared.component.Separated.{Separated}
 use Rattle.dfdl_rows.specs.declared.refusal.Refusal.{Refusal}
 use Rattle.dfdl_terms.specs.declared.delimiters.Delimiters.{Delimiters}
-use Rattle.dfdl_compile.specs.Statements.{first_statement, is_set_first}
+use Rattle.dfdl_terms.specs.Tables.{Named}
+use Rattle.dfdl_compile.specs.Tests.{all_tests, first_test, judgements_of}
+use Rattle.dfdl_terms.specs.declared.asserting.PatternTest.{PatternTest}
 use Rattle.dfdl_compile.specs.Delimiters.{framing_by, initiator_list_by, separated_by, separator_list_by, terminator_list_by}
 use Rattle.dfdl_compile.specs.Primitives.{empty_primitive_by, is_scanned, nil_primitive_by, prefix_primitive_by, primitive_by}
 
@@ -69,10 +68,9 @@ terminator_number documents own = count_of documents + number_of documents own
 abbrev pub separator_number : List SchemaDocument → Site → ℕ
 separator_number documents own = count_of documents + terminator_number documents own
 
--- what frames the content of an element of which this is told, where its first statement has this number
+-- what frames the content of an element of which this is told, where its first test has this number
 abbrev pub framing_of : List SchemaDocument → ℕ → Site → Judgement → Framing
-framing_of documents first own judgement =
-    framing_by (is_set_first (kind_at documents own)) first (number_of documents own) (terminator_number documents own) judgement
+framing_of documents first own judgement = framing_by first (number_of documents own) (terminator_number documents own) judgement
 
 -- the number of a primitive, where there is one
 abbrev pub number_if : ℕ → Option Primitive → Option ℕ
@@ -116,8 +114,6 @@ component_by purpose name primitive number framing size prefix tried separated i
     SimpleElement name (type_of primitive) number framing prefix tried (is_scanned primitive) occurs parsed
 component_by purpose name primitive number framing size prefix tried separated initiated occurs parsed kind.UncarriedElement =
     SimpleElement name (type_of primitive) number framing prefix tried (is_scanned primitive) occurs parsed
-component_by purpose name primitive number framing size prefix tried separated initiated occurs parsed (kind.CalculatedElement simple) =
-    SimpleElement name (type_of primitive) number framing prefix tried (is_scanned primitive) occurs parsed
 component_by purpose name primitive number framing size prefix tried separated initiated occurs parsed kind.Sequence =
     Sequence framing separated initiated
 component_by purpose name primitive number framing size prefix tried separated initiated occurs parsed kind.HiddenSequence =
@@ -132,7 +128,7 @@ abbrev pub hiding_by : Option Site → Component → Component
 hiding_by None component = component
 hiding_by (Some content) component = Hidden
 
--- what an element of the documents is for a purpose, of which this is told, where its first statement has this number
+-- what an element of the documents is for a purpose, of which this is told, where its first test has this number
 abbrev pub component_with : Purpose → List SchemaDocument → ℕ → Site → Judgement → Component
 component_with purpose documents first own judgement =
     hiding_by judgement.hidden
@@ -146,7 +142,7 @@ component_with purpose documents first own judgement =
 -- what an element of the documents is
 abbrev pub component_at : Purpose → (Site → Bool) → List SchemaDocument → Site → Component
 component_at purpose refused documents own =
-    component_with purpose documents (first_statement purpose refused documents own) own (judgement_at purpose refused documents own)
+    component_with purpose documents (first_test purpose refused documents own) own (judgement_at purpose refused documents own)
 
 -- the parts of a component that hides the group of this sequence or choice, or none
 abbrev pub parts_by : List SchemaDocument → Site → Option Site → List Site
@@ -162,18 +158,9 @@ part_numbers purpose refused documents own =
 abbrev pub refusal_of : Breach → Refusal
 refusal_of breach = record { cause = breach.cause; place = breach.place }
 
--- an element whose value is calculated isn't compiled
-abbrev pub calculation_refusal : Place → Option (List ℕ) → Option Refusal
-calculation_refusal place None = None
-calculation_refusal place (Some text) = Some (record { cause = OutsideSubset; place = place })
-
--- the refusal of a component that begins at this place and of which this is told
-abbrev pub refusal_by : Place → Judgement → Option Refusal
-refusal_by place judgement = or_else (option_map refusal_of judgement.breach) (calculation_refusal place judgement.calculation)
-
 -- the refusal of a component's own: the first rule that it breaks by itself
 abbrev pub refusal_at : Purpose → (Site → Bool) → List SchemaDocument → Site → Option Refusal
-refusal_at purpose refused documents own = refusal_by (place_of documents own) (judgement_at purpose refused documents own)
+refusal_at purpose refused documents own = option_map refusal_of (judgement_at purpose refused documents own).breach
 
 -- the components of the documents
 unfoldable pub components_of : Purpose → (Site → Bool) → List SchemaDocument → Schema
@@ -226,3 +213,15 @@ unfoldable pub delimiters_of : Purpose → (Site → Bool) → List SchemaDocume
 delimiters_of purpose refused documents =
     for_each documents (initiator_list_at purpose refused documents)
     ++ (for_each documents (terminator_list_at purpose refused documents) ++ for_each documents (separator_list_at purpose refused documents))
+
+-- the tests of the documents: those of their elements, one element after the other
+unfoldable pub tests_of : Purpose → (Site → Bool) → List SchemaDocument → List PatternTest
+tests_of purpose refused documents = all_tests (judgements_of purpose refused documents)
+
+-- what the rows of the documents name
+abbrev pub named_of : Purpose → (Site → Bool) → List SchemaDocument → Named
+named_of purpose refused documents = record {
+  primitives = primitives_of purpose refused documents;
+  delimiters = delimiters_of purpose refused documents;
+  tests = tests_of purpose refused documents;
+}

@@ -8,21 +8,20 @@ ghost use Rattle.dfdl_breaches.specs.Judging.{judgement_at};
 ghost use Rattle.dfdl_components.specs.declared.site.Site as declared_site;
 ghost use Rattle.dfdl_chains.specs.Everywhere.{all_sites};
 ghost use Rattle.dfdl_compile.specs.Components as spec;
+ghost use Rattle.dfdl_compile.specs.Tests as tests_of;
 ghost use Rattle.dfdl_rows.specs.declared.component.Component.TheVariants.{Sequence};
 ghost use Rattle.dfdl_compile.specs.Delimiters as delimiters;
 ghost use Rattle.dfdl_compile.specs.Primitives.{primitive_by};
 
-use crate::parts::place_at;
 use crate::primitives::{is_scanned_by, type_by};
-use crate::stating::{before_by, behind_by, first_behind, is_set_first};
+use crate::testing::{first_behind, tests_by};
 use dfdl_breaches::Judgement;
 use dfdl_chains::{Numbers, declaration, kind_at};
 use dfdl_checks::{Breach, Delimiting, Kind, OtherRepresentations, Purpose};
 use dfdl_components::{Schema, Site};
 use dfdl_constructs::plain;
-use dfdl_report::{Place, SchemaCause};
 use dfdl_rows::{Component, ContentBox, Refusal, Separated};
-use dfdl_terms::{Delimiter, Framing, Prefix, Primitive, Representations, Statements};
+use dfdl_terms::{Delimiter, Framing, Prefix, Primitive, Representations, Tests};
 use dfdl_value::TextValue;
 use std::alloc::{AllocError, Global};
 
@@ -87,20 +86,14 @@ fn delimiter_by(number: u32, delimiter: &Option<Delimiting>) -> Option<Delimiter
     }
 }
 
-// What frames the content of a component of which this is told, before and behind which these statements stand, and the literals of whose
-// initiator and terminator have these numbers.
-fn framing_with(
-    before: Statements,
-    behind: Statements,
-    initiator: u32,
-    terminator: u32,
-    judgement: &Judgement,
-) -> Framing
-    ensures { result ≡ delimiters.framing_with before behind initiator terminator judgement.now }
+// What frames the content of an element of which this is told, which has these tests, and the literals of whose initiator and terminator
+// have these numbers.
+fn framing_by(tests: Tests, initiator: u32, terminator: u32, judgement: &Judgement) -> Framing
+    requires { tests ≡ tests_of.tests_by tests.first judgement.now }
+    ensures { result ≡ delimiters.framing_by tests.first initiator terminator judgement.now }
 {
     Framing {
-        before,
-        behind,
+        tests,
         initiator: delimiter_by(initiator, &judgement.markup.initiator),
         terminator: delimiter_by(terminator, &judgement.markup.terminator),
         ..judgement.framing
@@ -234,17 +227,6 @@ fn component_by(
             occurs,
             is_parsed,
         },
-        Kind::CalculatedElement(_) => Component::SimpleElement {
-            name,
-            simple,
-            prim,
-            framing,
-            prefix,
-            tried,
-            is_scanned,
-            occurs,
-            is_parsed,
-        },
         Kind::Sequence | Kind::HiddenSequence => sequence_by(framing, separated, initiated),
         Kind::Choice => choice_by(purpose, framing, separated, initiated),
         Kind::PrefixNumber(_) => sequence_by(framing, separated, initiated),
@@ -263,8 +245,7 @@ fn one_list_behind(schema: &Schema, numbers: &Numbers, number: u32) -> Result<u3
     }
 }
 
-// What frames the content of an element of the documents of which this is told, where its first statement has this number.
-#[tactic(auto, using(crate::proofs::Fitting::framed))]
+// What frames the content of an element of the documents of which this is told, where its first test has this number.
 fn framing_of(
     schema: &Schema,
     numbers: &Numbers,
@@ -278,13 +259,11 @@ fn framing_of(
 {
     let initiator = numbers.number(schema, site);
     let terminator = one_list_behind(schema, numbers, initiator)?;
-    let is_first = is_set_first(kind_at(schema, numbers, site));
-    let before = before_by(is_first, first, judgement)?;
-    let behind = behind_by(is_first, first, judgement)?;
-    Ok(framing_with(before, behind, initiator, terminator, judgement))
+    let tests = tests_by(first, judgement)?;
+    Ok(framing_by(tests, initiator, terminator, judgement))
 }
 
-// What an element of the documents of which this is told has by numbers, where its first statement has this one.
+// What an element of the documents of which this is told has by numbers, where its first test has this one.
 fn by_numbers(
     schema: &Schema,
     numbers: &Numbers,
@@ -318,7 +297,7 @@ fn by_numbers(
     })
 }
 
-// What an element of the documents is for a purpose, of which this is told, where its first statement has this number.
+// What an element of the documents is for a purpose, of which this is told, where its first test has this number.
 fn component_with(
     alloc: Global,
     schema: &Schema,
@@ -377,48 +356,16 @@ fn refusal_of(breach: Option<Breach>) -> Option<Refusal>
     }
 }
 
-// The refusal of an element whose value is calculated, which isn't compiled.
-fn calculation_refusal(place: Place, calculation: &Option<TextValue>) -> Option<Refusal>
-    ensures { result ≡ spec.calculation_refusal place calculation.now }
-{
-    match calculation {
-        Some(_) => Some(Refusal {
-            cause: SchemaCause::OutsideSubset,
-            place,
-        }),
-        None => None,
-    }
-}
-
-// The refusal of a component that begins at this place and of which this is told.
-fn refusal_by(place: Place, judgement: &Judgement) -> Option<Refusal>
-    ensures { result ≡ spec.refusal_by place judgement.now }
-{
-    match refusal_of(judgement.breach) {
-        Some(refusal) => Some(refusal),
-        None => calculation_refusal(place, &judgement.calculation),
-    }
-}
-
 /// The refusal of each element's own.
 pub(crate) fn refusals(
     alloc: Global,
-    schema: &Schema,
-    purpose: Purpose,
-    sites: &[Site],
     judgements: &[Judgement],
 ) -> Result<Vec<Option<Refusal>>, AllocError>
-    requires sites { All (IsSite schema.now) sites.now }
-    requires told { length judgements.now ≡ length sites.now }
-    ensures { (refused : declared_site.Site → Bool)
-        → judgements.now ≡ map (judgement_at purpose refused schema.now) sites.now
-        → IfOk result (λ made. made.items ≡ map (spec.refusal_at purpose refused schema.now) sites.now) }
+    ensures { IfOk result (λ made. made.items ≡ map (λ j. option_map spec.refusal_of j.breach) judgements.now) }
 {
-    let _ = purpose;
     let mut made = Vec::new(alloc);
-    for at in 0..sites.len() {
-        let place = place_at(schema, sites[at]);
-        made.push(refusal_by(place, &judgements[at]))?;
+    for judgement in judgements {
+        made.push(refusal_of(judgement.breach))?;
     }
     Ok(made)
 }

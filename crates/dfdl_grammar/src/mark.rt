@@ -1,5 +1,4 @@
 use dfdl_region::Content;
-use dfdl_vars::VarMark;
 
 /// A place that parsing can go back to, and what was known there ('Parsing Algorithm').
 #[derive(Debug, Clone, Copy, PartialEq, Eq)]
@@ -22,6 +21,4 @@ pub struct Mark {
     pub inside: u32,
     /// what that element has
     pub content: Content,
-    /// what was kept of the variables
-    pub variables: VarMark,
 }

@@ -11,8 +11,7 @@ use dfdl_decimal::Fixed;
 use dfdl_forms::{BitOrder, ByteOrder, IntForm};
 use dfdl_region::{Content, Node};
 use dfdl_terms::{
-    Event, LengthUnit, NameNumbers, Prefix, Primitive, Representations, Row, RowId, RowList,
-    Statements, Tables, Terms,
+    Event, LengthUnit, Prefix, Primitive, Representations, Row, RowId, RowList, Tables, Terms,
 };
 use dfdl_value::{Simple, TextValue, Value};
 use std::alloc::{AllocError, Global};
@@ -35,8 +34,7 @@ fn form(bits: u32, kind: Simple) -> Primitive
 
 fn element(alloc: Global, name: &str, simple: Option<Simple>, body: u32) -> Result<Row, AllocError>
     ensures { IfOk result (λ row. row
-        ≡ Elem name.now simple (record { nil = None; empty = None; refuses_empty = false; are_several = false })
-        (record { first = 0; count = 0 }) body) }
+        ≡ Elem name.now simple (record { nil = None; empty = None; refuses_empty = false; are_several = false }) body) }
 {
     Ok(Row::Elem {
         name: TextValue::from_str(alloc, name)?,
@@ -47,7 +45,6 @@ fn element(alloc: Global, name: &str, simple: Option<Simple>, body: u32) -> Resu
             refuses_empty: false,
             are_several: false,
         },
-        behind: Statements { first: 0, count: 0 },
         body: RowId::new(body),
     })
 }
@@ -97,13 +94,7 @@ fn nested(alloc: Global) -> Result<Terms, Fail>
         element(alloc, "r", None, 11)?,
     ]?;
     let forms = vec![in alloc; form(8, Simple::UnsignedByte)]?;
-    let tables = Tables::new(
-        forms,
-        Vec::new(alloc),
-        Vec::new(alloc),
-        NameNumbers::from_vec(Vec::new(alloc)),
-        Vec::new(alloc),
-    );
+    let tables = Tables::new(forms, Vec::new(alloc), Vec::new(alloc));
     Ok(Terms::build(alloc, rows, tables)?)
 }
 
@@ -298,13 +289,7 @@ fn repeated(alloc: Global) -> Result<Terms, Fail> {
         element(alloc, "r", None, 4)?,
     ]?;
     let forms = vec![in alloc; form(8, Simple::UnsignedByte)]?;
-    let tables = Tables::new(
-        forms,
-        Vec::new(alloc),
-        Vec::new(alloc),
-        NameNumbers::from_vec(Vec::new(alloc)),
-        Vec::new(alloc),
-    );
+    let tables = Tables::new(forms, Vec::new(alloc), Vec::new(alloc));
     Ok(Terms::build(alloc, rows, tables)?)
 }
 
@@ -340,13 +325,7 @@ fn hiding(alloc: Global) -> Result<Terms, Fail> {
         element(alloc, "r", None, 4)?,
     ]?;
     let forms = vec![in alloc; form(8, Simple::UnsignedByte)]?;
-    let tables = Tables::new(
-        forms,
-        Vec::new(alloc),
-        Vec::new(alloc),
-        NameNumbers::from_vec(Vec::new(alloc)),
-        Vec::new(alloc),
-    );
+    let tables = Tables::new(forms, Vec::new(alloc), Vec::new(alloc));
     Ok(Terms::build(alloc, rows, tables)?)
 }
 

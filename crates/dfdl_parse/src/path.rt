@@ -91,8 +91,7 @@ fn push_name(
         Row::Repeat { .. } => Ok(()),
         Row::Optional { .. } => Ok(()),
         Row::Choice { .. } => Ok(()),
-        Row::Statement { .. } => Ok(()),
-        Row::Concluded { .. } => Ok(()),
+        Row::Test { .. } => Ok(()),
         Row::Hidden { .. } => Ok(()),
         Row::Separated { .. } => Ok(()),
     }

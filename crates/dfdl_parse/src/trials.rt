@@ -50,7 +50,6 @@ impl Parser {
             text: self.text.count(),
             inside: self.inside,
             content,
-            variables: self.variables.mark(),
         })?;
         Ok(())
     }
@@ -261,7 +260,6 @@ impl Parser {
         self.region.set_content(mark.inside, mark.content);
         self.text.undo_to(mark.text);
         self.inside = mark.inside;
-        self.variables.undo_to(mark.variables);
     }
 }
 
@@ -311,8 +309,7 @@ pub(crate) fn parts_of(terms: &Terms, id: RowId) -> Option<Parts>
         Row::Repeat { .. } => None,
         Row::Optional { .. } => None,
         Row::Choice { .. } => None,
-        Row::Statement { .. } => None,
-        Row::Concluded { .. } => None,
+        Row::Test { .. } => None,
         Row::Hidden { .. } => None,
         Row::Separated { .. } => None,
     }

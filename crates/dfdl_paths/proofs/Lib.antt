@@ -5,4 +5,5 @@ pub mod Follows
 pub mod Inside
 pub mod Walked
 pub mod Occurrences
+pub mod Numbered
 mod Texts

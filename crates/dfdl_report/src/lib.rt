@@ -11,9 +11,7 @@ pub mod line;
 pub mod place;
 pub mod status;
 
-pub use cause::{
-    DocCause, InfosetCause, LimitCause, ParseCause, SchemaCause, UnparseCause, VariableCause,
-};
+pub use cause::{DocCause, InfosetCause, LimitCause, ParseCause, SchemaCause, UnparseCause};
 pub use place::Place;
 pub use status::Status;
 

@@ -14,7 +14,6 @@ mod Looks
 mod Named
 mod Elements
 mod Nests
-mod Concluded
 mod Nesting
 mod Leaves
 mod Kept

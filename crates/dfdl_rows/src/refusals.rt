@@ -17,7 +17,6 @@ fn is_element(component: &Component) -> bool
     match component {
         Component::Sequence { .. } | Component::Choice { .. } | Component::Hidden => false,
         Component::ComplexElement { .. } | Component::SimpleElement { .. } => true,
-        Component::CalculatedElement { .. } => true,
     }
 }
 

@@ -9,7 +9,6 @@ pub mod Rankings
 pub mod Rests
 pub mod SlottedStops
 pub mod SoughtStops
-pub mod StatedStops
 pub mod Stopping
 pub mod Stops
 pub mod Tables

@@ -13,12 +13,12 @@ told_of-requires-clause-pattern g c =
 
 pub returns-in-Ok : goal.returns-in-Ok
 returns-in-Ok g c =
-    told_unrefused (judged_of c.args.subject.now) c.requires.subject _ _ _ _ _ _
+    told_unrefused (judged_of c.args.subject.now) c.requires.subject _ _ _ _ _
     (same_seen _ _ (c.in-Ok.ensures.still (λ is. cc)) (c.in-Ok.ensures.last_kept (λ is. cc))) c.told_of.ensures
 
 pub returns-in-Err-Refused : goal.returns-in-Err-Refused
 returns-in-Err-Refused g c =
-    told_refused (judged_of c.args.subject.now) c.requires.subject _ _ _ _ _ c.args.text.now c.requires.text
+    told_refused (judged_of c.args.subject.now) c.requires.subject _ _ _ _ c.args.text.now c.requires.text
     (record { later = c.in-Err-Refused.ensures.later; rose = c.in-Err-Refused.ensures.cause (cc); last = c.in-Err-Refused.ensures.last (cc) })
     c.told_of_refused.ensures
 

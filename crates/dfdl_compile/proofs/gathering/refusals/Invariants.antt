@@ -1,9 +1,8 @@
-use Rattle.std.proofs.Common.{◌≡◌, ◌++◌, Bool, map, drop}
-use Rattle.dfdl_components.specs.declared.site.Site.{Site}
-use Rattle.dfdl_breaches.specs.Judging.{judgement_at}
-use Rattle.dfdl_compile.specs.Components.{refusal_at}
+use Rattle.std.proofs.Common.{◌≡◌, ◌++◌, map, drop, option_map}
+use Rattle.dfdl_breaches.specs.declared.judgement.Judgement.{Judgement}
+use Rattle.dfdl_compile.specs.Components.{refusal_of}
 use Rattle.dfdl_compile.proofs.gathering.refusals.Given as goal
 
-abbrev pub invariant-loop-at : goal.invariant-loop-at
-invariant-loop-at l = (refused : Site → Bool) → l.judgements ≡ map (judgement_at l.fn.purpose refused l.schema) l.sites
-    → l.made.items ++ map (refusal_at l.fn.purpose refused l.schema) (drop l.at l.sites) ≡ map (refusal_at l.fn.purpose refused l.schema) l.sites
+abbrev pub invariant-loop-judgement : goal.invariant-loop-judgement
+invariant-loop-judgement l = l.made.items ++ map (λ (j : Judgement). option_map refusal_of j.breach) (drop l.judgement-index l.judgements)
+    ≡ map (λ (j : Judgement). option_map refusal_of j.breach) l.judgements

@@ -1,9 +1,0 @@
-mod Bracing
-mod Compiled
-mod Constants
-mod Steps
-mod Made
-mod Gathering
-mod Tables
-mod Refused
-mod Kinded

@@ -1,4 +1,0 @@
-mod Gathered
-mod Mapped
-mod Zipped
-mod Told

@@ -1,3 +1,0 @@
-pub mod Prefixes
-pub mod Variables
-pub mod Noting

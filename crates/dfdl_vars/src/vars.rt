@@ -188,7 +188,8 @@ impl Vars {
         }
     }
 
-    /// Goes back to a mark: each instance is open, set and read as it was there.
+    /// Goes back to a mark: each instance is open, set and read as it was there. A mark may come from any state: what is newer
+    /// than it is taken back, and what is not there any more is left alone.
     pub fn undo_to(&mut self, mark: VarMark)
         ensures gone { self.new ≡ gone_back mark self.old }
         ensures back { (base : Kept) → LeadsBack base self.old → mark ≡ mark_of base → self.new ≡ base }

@@ -15,7 +15,7 @@ use Rattle.dfdl_chains.specs.Parts.{is_component}
 use Rattle.dfdl_breaches.proofs.Numbering.{at-number, length-sites, numbered}
 use Rattle.dfdl_breaches.specs.Builds.{AreAllBuilt, AreBuilt, AreBuiltInPart, AreJudged, IsBuilt, PatternsSeen, always, never, patterns_at}
 use Rattle.dfdl_breaches.specs.BuildsShown.{IsToldBy}
-use Rattle.dfdl_breaches.specs.Judging.{hidden_at, judged_at, judgement_at, no_judgement}
+use Rattle.dfdl_breaches.specs.Judging.{built_settings_at, hidden_at, judged_at, judgement_at, no_judgement}
 use Rattle.dfdl_breaches.specs.JudgementShown.{judgement_of}
 use Rattle.dfdl_breaches.specs.declared.judgement.Judgement.{Judgement}
 
@@ -43,18 +43,18 @@ unfolding judgement_at
 not_component purpose documents own seen g is told = (
   false,
   refl,
-  subst (λ (c : Bool). g ≡ (if c then judgement_of (hidden_at purpose documents own) (judged_at purpose (always false) documents own) else no_judgement)) (sym is) told,
+  subst (λ (c : Bool). g ≡ (if c then judgement_of (hidden_at purpose documents own) (built_settings_at purpose documents own) (judged_at purpose (always false) documents own) else no_judgement)) (sym is) told,
 )
 
 pub of_component : {E : Type 0} (purpose : Purpose) (documents : List SchemaDocument) (own : Site) (old new : PatternsSeen) (r : Result Judgement E)
     → is_component (role_of documents own) ≡ true
-    → IsToldBy (patterns_of (judged_at purpose never documents own)) (λ (b : Bool). judgement_of (hidden_at purpose documents own) (judged_at purpose (always b) documents own)) old new r
+    → IsToldBy (patterns_of (judged_at purpose never documents own)) (λ (b : Bool). judgement_of (hidden_at purpose documents own) (built_settings_at purpose documents own) (judged_at purpose (always b) documents own)) old new r
     → IsToldBy (patterns_at purpose documents own) (λ (b : Bool). judgement_at purpose (always b) documents own) old new r
 unfolding judgement_at
 of_component purpose documents own old new r is told = (
   told.0,
   subst (λ (c : Bool). IsBuilt (if c then patterns_of (judged_at purpose never documents own) else []) told.0 old new) (sym is) told.1,
-  subst (λ (c : Bool). IfOk r (λ g. g ≡ (if c then judgement_of (hidden_at purpose documents own) (judged_at purpose (always told.0) documents own) else no_judgement))) (sym is) told.2,
+  subst (λ (c : Bool). IfOk r (λ g. g ≡ (if c then judgement_of (hidden_at purpose documents own) (built_settings_at purpose documents own) (judged_at purpose (always told.0) documents own) else no_judgement))) (sym is) told.2,
 )
 
 -- lists that are made of equal elements

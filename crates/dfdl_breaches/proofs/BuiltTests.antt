@@ -4,7 +4,7 @@ use Rattle.std.proofs.lemmas.List.{append_assoc, append-nil, drop_all}
 use Rattle.dfdl_forms.specs.declared.encoding.Encoding.{Encoding}
 use Rattle.dfdl_edge.specs.declared.building.PatternRefusal.{PatternRefusal}
 use Rattle.dfdl_edge.specs.declared.building.PatternRefusal.TheVariants.{Refused, OutOfMemory}
-use Rattle.dfdl_terms.specs.declared.asserting.PatternTest.{PatternTest}
+use Rattle.dfdl_terms.specs.declared.statement.PatternTest.{PatternTest}
 use Rattle.dfdl_checks.specs.Judged.{TestJudged}
 use Rattle.dfdl_checks.specs.JudgedShown.{test_judged_of}
 use Rattle.dfdl_checks.specs.Tests.{built_of_test, pattern_listed, test_patterns, tests_by}

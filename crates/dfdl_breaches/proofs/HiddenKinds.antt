@@ -1,12 +1,12 @@
 -- The kinds of components that may hide a group.
-use Rattle.std.proofs.Common.{◌≡◌, ◌∙◌, refl, ap, ℕ, List, [], codes, Bool, true, false, if◌then◌else◌, Option, Some, None}
+use Rattle.std.proofs.Common.{◌≡◌, ◌∙◌, refl, ℕ, List, [], codes, Bool, true, false, if◌then◌else◌, Option, Some, None}
 use Rattle.std.specs.Option.{option_and_then, option_or}
 use Rattle.dfdl_documents.specs.Documents.{SchemaDocument}
 use Rattle.dfdl_components.specs.declared.site.Site.{Site}
-use Rattle.dfdl_terms.specs.declared.asserting.PatternTest.{PatternTest}
+use Rattle.dfdl_terms.specs.declared.statement.PatternTest.{PatternTest}
 use Rattle.dfdl_checks.specs.Subjects.{is_simple, simple_of}
 use Rattle.dfdl_checks.specs.declared.subject.Kind.{Kind}
-use Rattle.dfdl_checks.specs.declared.subject.Kind.TheVariants.{ComplexElement, SimpleElement, UncarriedElement, Sequence, HiddenSequence, Choice, PrefixNumber}
+use Rattle.dfdl_checks.specs.declared.subject.Kind.TheVariants.{ComplexElement, SimpleElement, UncarriedElement, CalculatedElement, Sequence, HiddenSequence, Choice, PrefixNumber}
 use Rattle.dfdl_checks.specs.declared.purpose.Purpose.{Purpose}
 use Rattle.dfdl_checks.specs.declared.purpose.Purpose.TheVariants.{Parsing, Unparsing}
 use Rattle.dfdl_components.specs.Sites.{IsSite}
@@ -25,6 +25,7 @@ still_simple false kind = refl
 still_simple true ComplexElement = refl
 still_simple true (SimpleElement simple) = refl
 still_simple true UncarriedElement = refl
+still_simple true (CalculatedElement simple) = refl
 still_simple true Sequence = refl
 still_simple true HiddenSequence = refl
 still_simple true Choice = refl
@@ -35,6 +36,7 @@ same_type false kind = refl
 same_type true ComplexElement = refl
 same_type true (SimpleElement simple) = refl
 same_type true UncarriedElement = refl
+same_type true (CalculatedElement simple) = refl
 same_type true Sequence = refl
 same_type true HiddenSequence = refl
 same_type true Choice = refl

@@ -2,7 +2,7 @@
 use Rattle.std.proofs.Common.{◌≡◌, sym, ap, subst, ◌∙◌, ℕ, List, [], ◌∷◌, ◌++◌, Bool, true, false, if◌then◌else◌, Option, Some, None, Result, IfOk, inl, inr}
 use Rattle.dfdl_components.specs.declared.site.Site.{Site}
 use Rattle.dfdl_length_patterns.specs.Patterns.{anchored}
-use Rattle.dfdl_terms.specs.declared.asserting.PatternTest.{PatternTest}
+use Rattle.dfdl_terms.specs.declared.statement.PatternTest.{PatternTest}
 use Rattle.dfdl_checks.specs.Judged.{Judged}
 use Rattle.dfdl_checks.specs.Patterns.{form_by, length_pattern, pattern_encoding, pattern_prefix}
 use Rattle.dfdl_checks.specs.Tests.{listed, patterns_of, test_patterns, tests_by, tests_for, tests_of}
@@ -55,35 +55,36 @@ module _ (j : Judged) (is : j.pattern_is_refused ≡ false) where
     scheme = j.scheme;
     pattern_is_refused = is i;
     tests = j.tests;
+    sets_variables = j.sets_variables;
     standing = j.standing;
     group_is_unknown = j.group_is_unknown;
   }
 
-  module _ {E : Type 0} (hidden : Option Site) (before after : PatternsSeen) (result : Result Judgement E) where
+  module _ {E : Type 0} (hidden : Option Site) (settings : List Site) (before after : PatternsSeen) (result : Result Judgement E) where
     -- this is told of the component, by the builds of these patterns
     abbrev pub IsTold : List (List ℕ) → Type 0
-    IsTold patterns = IsToldBy patterns (λ (b : Bool). judgement_of hidden (with_refused b j)) before after result
+    IsTold patterns = IsToldBy patterns (λ (b : Bool). judgement_of hidden settings (with_refused b j)) before after result
 
     -- no pattern was refused
-    pub told_unrefused : (patterns : List (List ℕ)) → after ≡ before → IfOk result (λ g. g ≡ judgement_of hidden j) → IsTold patterns
+    pub told_unrefused : (patterns : List (List ℕ)) → after ≡ before → IfOk result (λ g. g ≡ judgement_of hidden settings j) → IsTold patterns
     told_unrefused patterns same told =
-        (false, same, subst (λ (k : Judged). IfOk result (λ g. g ≡ judgement_of hidden k)) itself told)
+        (false, same, subst (λ (k : Judged). IfOk result (λ g. g ≡ judgement_of hidden settings k)) itself told)
 
     -- that of the length was refused
     pub told_refused : (text : List ℕ) → Some text ≡ length_pattern j → IsRefusedBuild (anchored text) before after
-        → IfOk result (λ g. g ≡ judgement_of hidden (with_refused true j)) → IsTold (listed (length_pattern j))
+        → IfOk result (λ g. g ≡ judgement_of hidden settings (with_refused true j)) → IsTold (listed (length_pattern j))
     told_refused text pattern built told =
         (true, subst (λ (o : Option (List ℕ)). IsBuilt (listed o) true before after) pattern (inl built), told)
 
     -- one of the tests was refused
     pub test_refused : IsOneRefused (test_patterns (tests_for j.purpose j.tests)) before after
-        → IfOk result (λ g. g ≡ judgement_of hidden (with_refused true j)) → IsTold (patterns_of j)
+        → IfOk result (λ g. g ≡ judgement_of hidden settings (with_refused true j)) → IsTold (patterns_of j)
     test_refused refused told =
         (true, refused_before (test_patterns (tests_for j.purpose j.tests)) (listed (length_pattern j)) before after refused, told)
 
     -- none of the tests was refused, and then the pattern of the length was built
     pub told_behind : (between : PatternsSeen) → between ≡ before
-        → IsToldBy (listed (length_pattern j)) (λ (b : Bool). judgement_of hidden (with_refused b j)) between after result → IsTold (patterns_of j)
+        → IsToldBy (listed (length_pattern j)) (λ (b : Bool). judgement_of hidden settings (with_refused b j)) between after result → IsTold (patterns_of j)
     told_behind between same (b, built, told) = (b, by b (subst (λ (s : PatternsSeen). IsBuilt (listed (length_pattern j)) b s after) same built), told)
       where
         by : (c : Bool) → IsBuilt (listed (length_pattern j)) c before after → IsBuilt (patterns_of j) c before after

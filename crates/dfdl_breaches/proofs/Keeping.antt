@@ -14,7 +14,6 @@ use Rattle.dfdl_scope.specs.Shown.{format_given}
 use Rattle.dfdl_scope.specs.declared.format.Format.{Format}
 use Rattle.dfdl_chains.specs.Everywhere.{all_sites}
 use Rattle.dfdl_chains.specs.Facts.{facts_at}
-use Rattle.dfdl_chains.specs.Kinds.{kind_at}
 use Rattle.dfdl_chains.specs.Tests.{tests_at}
 use Rattle.dfdl_references.proofs.Found.{IsFound, of-found, default-found}
 use Rattle.dfdl_breaches.proofs.Joining.{all-tabled}
@@ -23,8 +22,8 @@ use Rattle.dfdl_breaches.specs.Builds.{PatternsSeen}
 use Rattle.dfdl_breaches.specs.BuildsShown.{IsToldBy, with_refused}
 use Rattle.dfdl_breaches.specs.Elements.{place_of}
 use Rattle.dfdl_breaches.specs.Formats.{format_value, given_by}
-use Rattle.dfdl_breaches.specs.Hidden.{facts_where, hides, hiding_at, is_unknown, kind_where, tests_where}
-use Rattle.dfdl_breaches.specs.Judging.{judged_at}
+use Rattle.dfdl_breaches.specs.Hidden.{facts_where, hides, hiding_at, is_unknown, tests_where}
+use Rattle.dfdl_breaches.specs.Judging.{are_some, judged_at, kind_judged, stated_settings_at}
 use Rattle.dfdl_breaches.specs.JudgementShown.{judgement_of}
 use Rattle.dfdl_breaches.specs.KeptShown.{IsFormatIf}
 use Rattle.dfdl_breaches.specs.declared.judgement.Judgement.{Judgement}
@@ -108,13 +107,14 @@ same_element a b place own twice format default = λ i. record {
 
 -- a component whose parts are those of the documents
 pub same_judged : (refused : Site → Bool) (documents : List SchemaDocument) (own : Site) (j : Judged)
-    → j.kind ≡ kind_where (hides (hiding_at j.purpose documents own)) (kind_at documents own)
+    → j.kind ≡ kind_judged j.purpose documents own
     → j.place.document ≡ (place_of documents own).document → j.place.at ≡ (place_of documents own).at → j.chain ≡ chain_at documents own
     → j.facts ≡ facts_where (hides (hiding_at j.purpose documents own)) (facts_at documents own) → j.root_bits_by ≡ root_bits_by documents → j.prefix ≡ prefix_at documents own → j.scheme ≡ scheme_at documents own
     → j.pattern_is_refused ≡ refused own → j.tests ≡ tests_where (hides (hiding_at j.purpose documents own)) (tests_at documents own)
+    → j.sets_variables ≡ are_some (stated_settings_at j.purpose documents own)
     → j.standing ≡ standing_at documents own → j.group_is_unknown ≡ is_unknown (hiding_at j.purpose documents own)
     → j ≡ judged_at j.purpose refused documents own
-same_judged refused documents own j kind document at chain facts root prefix scheme is_refused tests standing unknown = λ i. record {
+same_judged refused documents own j kind document at chain facts root prefix scheme is_refused tests sets standing unknown = λ i. record {
   purpose = j.purpose;
   kind = kind i;
   place = same_place j.place (place_of documents own).document (place_of documents own).at document at i;
@@ -125,14 +125,16 @@ same_judged refused documents own j kind document at chain facts root prefix sch
   scheme = scheme i;
   pattern_is_refused = is_refused i;
   tests = tests i;
+  sets_variables = sets i;
   standing = standing i;
   group_is_unknown = unknown i;
 }
 
--- what is told of a component that hides a group is told of the same one and group
-pub judged_told : {E : Type 0} (j k : Judged) (h o : Option Site) (s t : PatternsSeen) (r : Result Judgement E) → j ≡ k → h ≡ o
-    → IsToldBy (patterns_of j) (λ (b : Bool). judgement_of h (with_refused b j)) s t r
-    → IsToldBy (patterns_of k) (λ (b : Bool). judgement_of o (with_refused b k)) s t r
-judged_told j k h o s t r is hidden told =
-    subst (λ (x : Option Site). IsToldBy (patterns_of k) (λ (b : Bool). judgement_of x (with_refused b k)) s t r) hidden
-    (subst (λ (x : Judged). IsToldBy (patterns_of x) (λ (b : Bool). judgement_of h (with_refused b x)) s t r) is told)
+-- what is told of a component that hides a group is told of the same one, group and settings
+pub judged_told : {E : Type 0} (j k : Judged) (h o : Option Site) (l m : List Site) (s t : PatternsSeen) (r : Result Judgement E) → j ≡ k → h ≡ o → l ≡ m
+    → IsToldBy (patterns_of j) (λ (b : Bool). judgement_of h l (with_refused b j)) s t r
+    → IsToldBy (patterns_of k) (λ (b : Bool). judgement_of o m (with_refused b k)) s t r
+judged_told j k h o l m s t r is hidden settings told =
+    subst (λ (x : List Site). IsToldBy (patterns_of k) (λ (b : Bool). judgement_of o x (with_refused b k)) s t r) settings
+    (subst (λ (x : Option Site). IsToldBy (patterns_of k) (λ (b : Bool). judgement_of x l (with_refused b k)) s t r) hidden
+    (subst (λ (x : Judged). IsToldBy (patterns_of x) (λ (b : Bool). judgement_of h l (with_refused b x)) s t r) is told))

@@ -14,3 +14,5 @@ mod Judged
 mod Standings
 mod HiddenKinds
 mod BuiltTests
+mod Stated
+mod Calculating

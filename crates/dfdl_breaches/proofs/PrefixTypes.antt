@@ -1,5 +1,5 @@
 -- The types of length prefixes, by their names.
-use Rattle.std.proofs.Common.{◌≡◌, refl, sym, ap, subst, ◌∙◌, ℕ, ◌<◌, List, [], ◌∷◌, length, map, Bool, true, false, if◌then◌else◌, Option, Some, None, option_and_then, codes, arith}
+use Rattle.std.proofs.Common.{◌≡◌, refl, sym, ap, ◌∙◌, ℕ, List, map, Bool, true, false, if◌then◌else◌, Option, Some, None, option_and_then, codes}
 use Rattle.std.proofs.lemmas.Simd.{map-map}
 use Rattle.dfdl_documents.specs.Documents.{SchemaDocument}
 use Rattle.dfdl_forms.specs.declared.simple.Simple.{Simple}

@@ -2,7 +2,7 @@
 use Rattle.std.specs.Prelude.{◌≡◌, ℕ, List, [], ◌∷◌, ◌++◌, Bool, Result, Ok, Err, IfOk, OnOk}
 use Rattle.dfdl_edge.specs.declared.building.PatternRefusal.{PatternRefusal}
 use Rattle.dfdl_edge.specs.declared.building.PatternRefusal.TheVariants.{Refused, OutOfMemory}
-use Rattle.dfdl_terms.specs.declared.asserting.PatternTest.{PatternTest}
+use Rattle.dfdl_terms.specs.declared.statement.PatternTest.{PatternTest}
 use Rattle.dfdl_checks.specs.Judged.{Judged}
 use Rattle.dfdl_breaches.specs.Builds.{IsBuilt, IsOneRefused, PatternsSeen}
 use Rattle.dfdl_breaches.specs.declared.judgement.Judgement.{Judgement}

@@ -87,9 +87,14 @@ kind_where true kind = hidden_kind kind
 -- what a component states that may hide a group
 abbrev pub facts_where : Bool → FactsJudged → FactsJudged
 facts_where false facts = facts
-facts_where true facts = record facts { sets_variables = false }
+facts_where true facts = record facts { opens_instances = false }
 
 -- the tests of a component that may hide a group
 abbrev pub tests_where : Bool → List TestJudged → List TestJudged
 tests_where false tests = tests
 tests_where true tests = []
+
+-- the setVariable elements of a component that may hide a group
+abbrev pub settings_where : Bool → List Site → List Site
+settings_where false settings = settings
+settings_where true settings = []

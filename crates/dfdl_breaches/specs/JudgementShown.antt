@@ -1,6 +1,7 @@
--- Mirror for the prover: what is told of a component, by what the rules see of it and the group that it hides.
-use Rattle.std.specs.Prelude.{Option}
+-- Mirror for the prover: what is told of a component, by what the rules see of it, the group that it hides and its settings.
+use Rattle.std.specs.Prelude.{List, Option}
 use Rattle.dfdl_checks.specs.Boxes.{size_of_box}
+use Rattle.dfdl_checks.specs.Calculations.{calculation_of}
 use Rattle.dfdl_checks.specs.Delimiters.{delimiters_of}
 use Rattle.dfdl_checks.specs.Framing.{framing_of}
 use Rattle.dfdl_checks.specs.Judged.{Judged}
@@ -9,14 +10,14 @@ use Rattle.dfdl_checks.specs.Occurrences.{is_count_parsed, occurrences_of}
 use Rattle.dfdl_checks.specs.Representations.{representations_of}
 use Rattle.dfdl_checks.specs.Rules.{breach_of_component}
 use Rattle.dfdl_checks.specs.Standings.{initiates}
-use Rattle.dfdl_checks.specs.Tests.{tests_of}
+use Rattle.dfdl_checks.specs.Tests.{checks_of, tests_of}
 use Rattle.dfdl_components.specs.declared.site.Site.{Site}
 use Rattle.dfdl_breaches.specs.Judging.{form_before}
 use Rattle.dfdl_breaches.specs.declared.judgement.Judgement.{Judgement}
 
 -- what is told
-abbrev pub judgement_of : Option Site → Judged → Judgement
-judgement_of hidden j = record {
+abbrev pub judgement_of : Option Site → List Site → Judged → Judgement
+judgement_of hidden settings j = record {
   breach = breach_of_component j;
   primitive = primitive_of j;
   framing = framing_of j;
@@ -28,5 +29,8 @@ judgement_of hidden j = record {
   is_parsed = is_count_parsed j;
   initiates = initiates j;
   tests = tests_of j;
+  checks = checks_of j;
+  settings = settings;
+  calculation = calculation_of j;
   hidden = hidden;
 }

@@ -1,10 +1,12 @@
 -- What is wrong at each component of a schema by itself, how the values of its simple elements lie in the data, which fill, which
--- delimiters and which box stand around its content, which other representations it has, how often it occurs, which tests it has, and
--- which group it hides.
-use Rattle.std.specs.Prelude.{ℕ, List, [], Option, None, Some, Bool, false, if◌then◌else◌}
+-- delimiters and which box stand around its content, which other representations it has, how often it occurs, which tests and settings it
+-- has, by which expression its value is calculated, and which group it hides.
+use Rattle.std.specs.Prelude.{ℕ, List, [], length, nat_lt, Option, None, Some, Bool, false, if◌then◌else◌}
 use Rattle.dfdl_documents.specs.Documents.{SchemaDocument}
 use Rattle.dfdl_components.specs.declared.site.Site.{Site}
-use Rattle.dfdl_components.specs.Sites.{role_of}
+use Rattle.dfdl_components.specs.Globals.{site}
+use Rattle.dfdl_components.specs.Sites.{IsSite, role_of}
+use Rattle.dfdl_checks.specs.Calculations.{calculation_of, kind_for}
 use Rattle.dfdl_checks.specs.Judged.{Judged}
 use Rattle.dfdl_checks.specs.Occurrences.{is_count_parsed, occurrences_of}
 use Rattle.dfdl_checks.specs.Patterns.{pattern_prefix}
@@ -12,7 +14,8 @@ use Rattle.dfdl_checks.specs.Prefixes.{prefix_of}
 use Rattle.dfdl_checks.specs.Representations.{no_representations, representations_of}
 use Rattle.dfdl_checks.specs.Rules.{breach_of_component}
 use Rattle.dfdl_checks.specs.Standings.{initiates}
-use Rattle.dfdl_checks.specs.Tests.{tests_of}
+use Rattle.dfdl_checks.specs.Tests.{checks_of, tests_of}
+use Rattle.dfdl_checks.specs.declared.expression_tests.CheckForm.{CheckForm}
 use Rattle.dfdl_checks.specs.declared.tried.OtherRepresentations.{OtherRepresentations}
 use Rattle.dfdl_checks.specs.declared.prefixes.PrefixForm.{PrefixForm}
 use Rattle.dfdl_checks.specs.Boxes.{size_of_box}
@@ -21,30 +24,47 @@ use Rattle.dfdl_checks.specs.declared.delimiters.Markup.{Markup}
 use Rattle.dfdl_checks.specs.Framing.{framing_of}
 use Rattle.dfdl_checks.specs.Numbers.{primitive_of}
 use Rattle.dfdl_checks.specs.declared.purpose.Purpose.{Purpose}
+use Rattle.dfdl_checks.specs.declared.purpose.Purpose.TheVariants.{Parsing, Unparsing}
 use Rattle.dfdl_checks.specs.declared.subject.Breach.{Breach}
+use Rattle.dfdl_checks.specs.declared.subject.Kind.{Kind}
 use Rattle.dfdl_chains.specs.Facts.{facts_at}
 use Rattle.dfdl_chains.specs.Kinds.{kind_at}
 use Rattle.dfdl_chains.specs.Parts.{is_component}
+use Rattle.dfdl_chains.specs.Settings.{settings_at}
 use Rattle.dfdl_chains.specs.Tests.{tests_at}
 use Rattle.dfdl_terms.specs.Framing.{no_fill}
 use Rattle.dfdl_terms.specs.Occurs.{occurs_once}
 use Rattle.dfdl_terms.specs.declared.framing.Framing.{Framing}
 use Rattle.dfdl_terms.specs.declared.occurs.Occurs.{Occurs}
-use Rattle.dfdl_terms.specs.declared.asserting.PatternTest.{PatternTest}
+use Rattle.dfdl_terms.specs.declared.statement.PatternTest.{PatternTest}
 use Rattle.dfdl_terms.specs.declared.row.Primitive.{Primitive}
 use Rattle.dfdl_breaches.specs.Elements.{place_of}
-use Rattle.dfdl_breaches.specs.Hidden.{content_hidden, facts_where, hides, hiding_at, is_unknown, kind_where, tests_where}
+use Rattle.dfdl_breaches.specs.Hidden.{content_hidden, facts_where, hides, hiding_at, is_unknown, kind_where, settings_where, tests_where}
 use Rattle.dfdl_breaches.specs.Prefixes.{prefix_at}
 use Rattle.dfdl_breaches.specs.Roots.{chain_at, root_bits_by}
 use Rattle.dfdl_breaches.specs.Schemes.{scheme_at}
 use Rattle.dfdl_breaches.specs.Standing.{standing_at}
 use Rattle.dfdl_breaches.specs.declared.judgement.Judgement.{Judgement}
 
+-- the setVariable elements at a component; at a sequence that stands for a hidden group there are none
+abbrev pub stated_settings_at : Purpose → List SchemaDocument → Site → List Site
+stated_settings_at purpose documents own = settings_where (hides (hiding_at purpose documents own)) (settings_at documents own)
+
+-- there are some
+abbrev pub are_some : List Site → Bool
+are_some settings = nat_lt 0 (length settings)
+
+-- the kind of a component as the rules see it: a sequence that hides a group has one of its own, and so has an element whose value is
+-- calculated
+abbrev pub kind_judged : Purpose → List SchemaDocument → Site → Kind
+kind_judged purpose documents own =
+    kind_for purpose (facts_at documents own) (chain_at documents own) (kind_where (hides (hiding_at purpose documents own)) (kind_at documents own))
+
 -- a component as the rules see it, where patterns of these elements are refused
 abbrev pub judged_at : Purpose → (Site → Bool) → List SchemaDocument → Site → Judged
 judged_at purpose refused documents own = record {
   purpose = purpose;
-  kind = kind_where (hides (hiding_at purpose documents own)) (kind_at documents own);
+  kind = kind_judged purpose documents own;
   place = place_of documents own;
   chain = chain_at documents own;
   facts = facts_where (hides (hiding_at purpose documents own)) (facts_at documents own);
@@ -53,6 +73,7 @@ judged_at purpose refused documents own = record {
   scheme = scheme_at documents own;
   pattern_is_refused = refused own;
   tests = tests_where (hides (hiding_at purpose documents own)) (tests_at documents own);
+  sets_variables = are_some (stated_settings_at purpose documents own);
   standing = standing_at documents own;
   group_is_unknown = is_unknown (hiding_at purpose documents own);
 }
@@ -106,9 +127,30 @@ is_parsed_at purpose refused documents own = is_count_parsed (judged_at purpose 
 abbrev pub initiates_at : Purpose → (Site → Bool) → List SchemaDocument → Site → Bool
 initiates_at purpose refused documents own = initiates (judged_at purpose refused documents own)
 
--- the tests of a component
+-- the tests of patterns of a component
 abbrev pub built_tests_at : Purpose → (Site → Bool) → List SchemaDocument → Site → List PatternTest
 built_tests_at purpose refused documents own = tests_of (judged_at purpose refused documents own)
+
+-- the tests of expressions of a component
+abbrev pub built_checks_at : Purpose → (Site → Bool) → List SchemaDocument → Site → List CheckForm
+built_checks_at purpose refused documents own = checks_of (judged_at purpose refused documents own)
+
+-- a test of an expression is an element of the documents
+abbrev pub IsCheckOf : List SchemaDocument → CheckForm → Type 0
+IsCheckOf documents check = IsSite documents (site check.document check.element)
+
+-- the expression by which the value of a component is calculated, if it is
+abbrev pub calculation_at : Purpose → (Site → Bool) → List SchemaDocument → Site → Option (List ℕ)
+calculation_at purpose refused documents own = calculation_of (judged_at purpose refused documents own)
+
+-- settings are built for parsing
+abbrev pub settings_for : Purpose → List Site → List Site
+settings_for Parsing settings = settings
+settings_for Unparsing settings = []
+
+-- the setVariable elements of a component that are built
+abbrev pub built_settings_at : Purpose → List SchemaDocument → Site → List Site
+built_settings_at purpose documents own = settings_for purpose (stated_settings_at purpose documents own)
 
 -- the sequence or choice of the group that a component hides
 abbrev pub hidden_at : Purpose → List SchemaDocument → Site → Option Site
@@ -128,6 +170,9 @@ no_judgement = record {
   is_parsed = false;
   initiates = false;
   tests = [];
+  checks = [];
+  settings = [];
+  calculation = None;
   hidden = None;
 }
 
@@ -147,6 +192,9 @@ judgement_at purpose refused documents own =
       is_parsed = is_parsed_at purpose refused documents own;
       initiates = initiates_at purpose refused documents own;
       tests = built_tests_at purpose refused documents own;
+      checks = built_checks_at purpose refused documents own;
+      settings = built_settings_at purpose documents own;
+      calculation = calculation_at purpose refused documents own;
       hidden = hidden_at purpose documents own;
     }
     else no_judgement

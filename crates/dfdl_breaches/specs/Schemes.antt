@@ -1,6 +1,6 @@
 -- The escape schemes that components name, as the rules see them ('Simple Types', on escapeSchemeRef, and 'Property Scoping and
 -- DFDL Schema Checking').
-use Rattle.std.specs.Prelude.{ℕ, List, map, Bool, Option, None, Some, codes, if◌then◌else◌}
+use Rattle.std.specs.Prelude.{ℕ, List, map, Option, None, Some, codes, if◌then◌else◌}
 use Rattle.dfdl_documents.specs.Documents.{SchemaDocument}
 use Rattle.dfdl_components.specs.declared.site.Site.{Site}
 use Rattle.dfdl_escape_schemes.specs.declared.named.NamedScheme.{NamedScheme}

@@ -189,7 +189,7 @@ pub(crate) fn facts_where<'c>(is_hidden: bool, facts: Facts<'c>) -> Facts<'c>
         return facts;
     }
     Facts {
-        sets_variables: false,
+        opens_instances: false,
         ..facts
     }
 }

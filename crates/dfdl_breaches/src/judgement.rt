@@ -1,8 +1,11 @@
 // What is told of a component.
+use crate::check_list::CheckList;
+use crate::setting_list::SettingList;
 use crate::test_list::TestList;
 use dfdl_checks::{Breach, Markup, OtherRepresentations, PrefixForm};
 use dfdl_components::Site;
 use dfdl_terms::{Framing, Occurs, Primitive};
+use dfdl_value::TextValue;
 
 /// What is told of an element of a schema's documents.
 #[derive(Debug, Drop)]
@@ -29,6 +32,12 @@ pub struct Judgement {
     pub initiates: bool,
     /// Its tests of patterns, in their order ('DFDL Schema Component Model').
     pub tests: TestList,
+    /// Its tests of expressions, in their order.
+    pub checks: CheckList,
+    /// Its setVariable elements, in their order ('Syntax of DFDL Annotation Elements').
+    pub settings: SettingList,
+    /// The expression by which its value is calculated, as it is written, if it is ('Calculated Values').
+    pub calculation: Option<TextValue>,
     /// It stands for the group of this sequence or choice, whose elements the infoset doesn't have ('Sequence Groups').
     pub hidden: Option<Site>,
 }

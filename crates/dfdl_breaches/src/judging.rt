@@ -8,13 +8,15 @@ ghost use Rattle.dfdl_breaches.specs.BuildsShown.{IsToldBy, with_refused};
 ghost use Rattle.dfdl_breaches.specs.Judging.{form_or};
 ghost use Rattle.dfdl_breaches.specs.JudgementShown.{judgement_of};
 
+use crate::check_list::CheckList;
 use crate::judgement::Judgement;
+use crate::setting_list::SettingList;
 use crate::test_list::TestList;
 use crate::testing::tests_of;
 use dfdl_checks::{
-    PrefixForm, Subject, breach, delimiters_at, framing, initiates, is_count_parsed,
-    length_pattern, occurrences, other_representations, pattern_encoding, prefix, primitive,
-    size_of_box,
+    PrefixForm, Subject, breach, calculation, checks, delimiters_at, framing, initiates,
+    is_count_parsed, length_pattern, message_of, occurrences, other_representations,
+    pattern_encoding, prefix, primitive, size_of_box,
 };
 use dfdl_components::Site;
 use dfdl_edge::{PatternRefusal, Patterns};
@@ -49,23 +51,26 @@ fn form_by(encoding: Option<Encoding>, text: &str, pattern: LengthPattern) -> Op
     }
 }
 
-// What is told of a component that hides a group or none, by what the rules see of it, its tests and its pattern.
+// What is told of a component that hides a group or none, by what the rules see of it, its settings, its tests and its pattern.
 fn told_of(
     alloc: Global,
     subject: &Subject<'_, '_, '_>,
     hidden: Option<Site>,
+    settings: SettingList,
     tests: TestList,
     pattern: Option<PrefixForm>,
 ) -> Result<Judgement, AllocError>
     requires tests { tests ≡ tested.tests_of (judged_of subject.now) }
     requires pattern { pattern ≡ pattern_prefix (judged_of subject.now) }
-    ensures { IfOk result (λ judgement. judgement ≡ judgement_of hidden (judged_of subject.now)) }
+    ensures { IfOk result (λ judgement. judgement ≡ judgement_of hidden settings (judged_of subject.now)) }
 {
     let breach = breach(alloc, subject)?;
     let primitive = primitive(alloc, subject)?;
     let markup = delimiters_at(alloc, subject)?;
     let prefix = prefix(alloc, subject)?;
     let others = other_representations(alloc, subject)?;
+    let checks = CheckList::from_vec(checks(alloc, subject)?);
+    let calculation = message_of(alloc, calculation(subject))?;
     Ok(Judgement {
         breach,
         primitive,
@@ -78,6 +83,9 @@ fn told_of(
         is_parsed: is_count_parsed(subject),
         initiates: initiates(subject),
         tests,
+        checks,
+        settings,
+        calculation,
         hidden,
     })
 }
@@ -87,15 +95,16 @@ fn told_of_refused(
     alloc: Global,
     subject: &Subject<'_, '_, '_>,
     hidden: Option<Site>,
+    settings: SettingList,
 ) -> Result<Judgement, AllocError>
-    ensures { IfOk result (λ judgement. judgement ≡ judgement_of hidden (with_refused true (judged_of subject.now))) }
+    ensures { IfOk result (λ judgement. judgement ≡ judgement_of hidden settings (with_refused true (judged_of subject.now))) }
 {
     let subject = Subject {
         pattern_is_refused: true,
         ..*subject
     };
     let tests = TestList::from_vec(Vec::new(alloc));
-    told_of(alloc, &subject, hidden, tests, None)
+    told_of(alloc, &subject, hidden, settings, tests, None)
 }
 
 // What is told of a component with these tests, whose length a pattern of this text tells.
@@ -103,6 +112,7 @@ fn judge_by<P: Patterns>(
     alloc: Global,
     subject: &Subject<'_, '_, '_>,
     hidden: Option<Site>,
+    settings: SettingList,
     tests: TestList,
     text: &str,
     patterns: &mut P,
@@ -111,16 +121,16 @@ fn judge_by<P: Patterns>(
     requires tests { tests ≡ tested.tests_of (judged_of subject.now) }
     requires text { Some text.now ≡ length_pattern (judged_of subject.now) }
     ensures { IsToldBy (tested.listed (length_pattern (judged_of subject.now)))
-        (λ is_refused. judgement_of hidden (with_refused is_refused (judged_of subject.now)))
+        (λ is_refused. judgement_of hidden settings (with_refused is_refused (judged_of subject.now)))
         (record { faults = P.faults patterns.old; last = P.last_refused patterns.old })
         (record { faults = P.faults patterns.new; last = P.last_refused patterns.new }) result }
 {
     match LengthPattern::build(alloc, patterns, text) {
         Ok(pattern) => {
             let form = form_by(pattern_encoding(subject), text, pattern);
-            told_of(alloc, subject, hidden, tests, form)
+            told_of(alloc, subject, hidden, settings, tests, form)
         }
-        Err(PatternRefusal::Refused) => told_of_refused(alloc, subject, hidden),
+        Err(PatternRefusal::Refused) => told_of_refused(alloc, subject, hidden, settings),
         Err(PatternRefusal::OutOfMemory) => Err(AllocError),
     }
 }
@@ -130,19 +140,20 @@ fn judge_tested<P: Patterns>(
     alloc: Global,
     subject: &Subject<'_, '_, '_>,
     hidden: Option<Site>,
+    settings: SettingList,
     tests: TestList,
     patterns: &mut P,
 ) -> Result<Judgement, AllocError>
     requires subject { subject.now.pattern_is_refused ≡ false }
     requires tests { tests ≡ tested.tests_of (judged_of subject.now) }
     ensures { IsToldBy (tested.listed (length_pattern (judged_of subject.now)))
-        (λ is_refused. judgement_of hidden (with_refused is_refused (judged_of subject.now)))
+        (λ is_refused. judgement_of hidden settings (with_refused is_refused (judged_of subject.now)))
         (record { faults = P.faults patterns.old; last = P.last_refused patterns.old })
         (record { faults = P.faults patterns.new; last = P.last_refused patterns.new }) result }
 {
     match length_pattern(subject) {
-        Some(text) => judge_by(alloc, subject, hidden, tests, text, patterns),
-        None => told_of(alloc, subject, hidden, tests, None),
+        Some(text) => judge_by(alloc, subject, hidden, settings, tests, text, patterns),
+        None => told_of(alloc, subject, hidden, settings, tests, None),
     }
 }
 
@@ -151,17 +162,18 @@ pub(crate) fn judge<P: Patterns>(
     alloc: Global,
     subject: &Subject<'_, '_, '_>,
     hidden: Option<Site>,
+    settings: SettingList,
     patterns: &mut P,
 ) -> Result<Judgement, AllocError>
     requires { subject.now.pattern_is_refused ≡ false }
     ensures { IsToldBy (tested.patterns_of (judged_of subject.now))
-        (λ is_refused. judgement_of hidden (with_refused is_refused (judged_of subject.now)))
+        (λ is_refused. judgement_of hidden settings (with_refused is_refused (judged_of subject.now)))
         (record { faults = P.faults patterns.old; last = P.last_refused patterns.old })
         (record { faults = P.faults patterns.new; last = P.last_refused patterns.new }) result }
 {
     match tests_of(alloc, subject, patterns) {
-        Ok(tests) => judge_tested(alloc, subject, hidden, tests, patterns),
-        Err(PatternRefusal::Refused) => told_of_refused(alloc, subject, hidden),
+        Ok(tests) => judge_tested(alloc, subject, hidden, settings, tests, patterns),
+        Err(PatternRefusal::Refused) => told_of_refused(alloc, subject, hidden, settings),
         Err(PatternRefusal::OutOfMemory) => Err(AllocError),
     }
 }

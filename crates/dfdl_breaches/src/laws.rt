@@ -1,5 +1,5 @@
 // Laws of the definitions that the contracts cite. The calls do nothing.
-ghost use Rattle.std.specs.Prelude.{◌≡◌, ◌≢◌, [], Bool, false, List, Some, None, IsTrue, IsSome};
+ghost use Rattle.std.specs.Prelude.{◌≡◌, ◌≢◌, ℕ, [], All, Bool, false, List, Some, None, IsTrue, IsSome};
 ghost use Rattle.dfdl_terms.specs.Rows.{IsPrimitive, IsWritten};
 ghost use Rattle.dfdl_terms.specs.declared.row.Primitive.{Primitive};
 ghost use Rattle.dfdl_terms.specs.declared.row.Primitive.TheVariants.{Default};
@@ -17,21 +17,21 @@ ghost use Rattle.dfdl_checks.specs.declared.purpose.Purpose.TheVariants.{Unparsi
 ghost use Rattle.dfdl_chains.specs.Kinds.{kind_at};
 ghost use Rattle.dfdl_checks.specs.declared.prefixes.PrefixForm.{PrefixForm};
 ghost use Rattle.dfdl_breaches.specs.Builds.{AreAllBuilt, PatternsSeen, patterns_at};
-ghost use Rattle.dfdl_breaches.specs.Judging.{breach_at, built_tests_at, form_of_prefix, hidden_at, initiates_at, is_parsed_at, others_at, primitive_at};
+ghost use Rattle.dfdl_breaches.specs.Judging.{IsCheckOf, breach_at, built_checks_at, built_settings_at, built_tests_at, calculation_at, form_of_prefix, hidden_at, initiates_at, is_parsed_at, others_at, primitive_at};
 
-use dfdl_chains::named_groups_are_within;
+use dfdl_chains::{named_groups_are_within, statements_are_within};
 use dfdl_checks::laws::{
     prefixes_are_bounded, primitives_are_bounded, primitives_for_unparsing_are_whole,
     representations_are_bounded, sound_elements_have_primitives,
 };
 
-/// A simple element without a breach has a primitive. Each primitive, of an element with breaches too,
+/// A simple element without a breach has a primitive, unless its value is calculated. Each primitive, of an element with breaches too,
 /// keeps the bounds of its type, which is that of the element, and each one for unparsing is a whole
 /// unsigned integer. So does each primitive of a length prefix or a pattern, of which there is none for unparsing, and each one of a nil
 /// representation, or of an empty one whose text is one of characters; for unparsing only the normal representation is tried.
 pub fn sound_elements_have_bounded_primitives()
     ensures sound { (purpose : Purpose) (refused : Site → Bool) (documents : List SchemaDocument) (own : Site) → breach_at purpose refused documents own ≡ None
-        → IsTrue (is_simple (kind_at documents own)) → IsSome (primitive_at purpose refused documents own) }
+        → calculation_at purpose refused documents own ≡ None → IsTrue (is_simple (kind_at documents own)) → IsSome (primitive_at purpose refused documents own) }
     ensures prefix { (purpose : Purpose) (refused : Site → Bool) (documents : List SchemaDocument) (own : Site) (f : PrefixForm)
         → form_of_prefix purpose refused documents own ≡ Some f → IsPrimitive f.primitive }
     ensures parsing { (refused : Site → Bool) (documents : List SchemaDocument) (own : Site) → form_of_prefix Unparsing refused documents own ≡ None }
@@ -55,10 +55,14 @@ pub fn sound_elements_have_bounded_primitives()
     primitives_for_unparsing_are_whole();
 }
 
-/// For unparsing no test is built, no component hides a group, no content is initiated, and no occurrence is of kind parsed.
+/// For unparsing no test and no setting is built, no value is calculated, no component hides a group, no content is initiated, and no
+/// occurrence is of kind parsed.
 #[tactic(auto, using(crate::proofs::HiddenKinds::untested, crate::proofs::HiddenKinds::unhidden))]
 pub fn statements_are_for_parsing()
     ensures tests { (refused : Site → Bool) (documents : List SchemaDocument) (own : Site) → built_tests_at Unparsing refused documents own ≡ [] }
+    ensures checks { (refused : Site → Bool) (documents : List SchemaDocument) (own : Site) → built_checks_at Unparsing refused documents own ≡ [] }
+    ensures settings { (documents : List SchemaDocument) (own : Site) → built_settings_at Unparsing documents own ≡ [] }
+    ensures calculated { (refused : Site → Bool) (documents : List SchemaDocument) (own : Site) → calculation_at Unparsing refused documents own ≡ None }
     ensures hidden { (documents : List SchemaDocument) (own : Site) → hidden_at Unparsing documents own ≡ None }
     ensures initiated { (refused : Site → Bool) (documents : List SchemaDocument) (own : Site) → initiates_at Unparsing refused documents own ≡ false }
     ensures counted { (refused : Site → Bool) (documents : List SchemaDocument) (own : Site) → is_parsed_at Unparsing refused documents own ≡ false }
@@ -71,6 +75,24 @@ pub fn hidden_groups_are_within()
         → IsSite documents content }
 {
     named_groups_are_within();
+}
+
+/// A component whose value is calculated is an element of a simple type that is carried.
+#[tactic(auto, using(crate::proofs::Calculating::calculated_typed))]
+pub fn calculated_elements_are_simple()
+    ensures { (purpose : Purpose) (refused : Site → Bool) (documents : List SchemaDocument) (own : Site) (text : List ℕ)
+        → calculation_at purpose refused documents own ≡ Some text → IsSome (simple_of (kind_at documents own)) }
+{}
+
+/// The tests of expressions and the settings that are told of a component are elements of the documents.
+#[tactic(auto, using(crate::proofs::Stated::checks_within, crate::proofs::Stated::settings_within))]
+pub fn told_statements_are_within()
+    ensures checks { (purpose : Purpose) (refused : Site → Bool) (documents : List SchemaDocument) (own : Site) → IsSite documents own
+        → All (IsCheckOf documents) (built_checks_at purpose refused documents own) }
+    ensures settings { (purpose : Purpose) (documents : List SchemaDocument) (own : Site) → IsSite documents own
+        → All (IsSite documents) (built_settings_at purpose documents own) }
+{
+    statements_are_within();
 }
 
 /// What the builds of the patterns of a schema tell: one that is refused is one of those of an element that has some, and the count of refused

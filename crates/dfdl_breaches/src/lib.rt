@@ -11,6 +11,7 @@
 #![tactic(auto)]
 
 mod chain;
+mod check_list;
 mod entries;
 mod entry;
 mod formats;
@@ -23,13 +24,17 @@ pub mod laws;
 mod prefixes;
 mod root;
 mod schemes;
+mod setting_list;
+mod settings;
 mod sites;
 mod standing;
 mod telling;
 mod test_list;
 mod testing;
 
+pub use check_list::CheckList;
 pub use judgement::Judgement;
 pub use root::root_of;
+pub use setting_list::SettingList;
 pub use telling::breaches;
 pub use test_list::TestList;

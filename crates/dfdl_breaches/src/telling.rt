@@ -3,18 +3,20 @@ ghost use Rattle.std.specs.Prelude.{◌≡◌, All, IfOk, IfErr};
 ghost use Rattle.dfdl_components.specs.Rules.{loading_rules, AllKeep};
 ghost use Rattle.dfdl_components.specs.Sites.{IsSite};
 ghost use Rattle.dfdl_chains.specs.Chains.{chain_sites};
+ghost use Rattle.dfdl_chains.specs.Settings.{settings_at};
 ghost use Rattle.dfdl_checks.specs.Tests.{patterns_of};
 ghost use Rattle.dfdl_breaches.specs.Builds.{AreBuiltInPart, AreJudged, always, never, patterns_at};
 ghost use Rattle.dfdl_breaches.specs.BuildsShown.{IsPushed, IsToldBy};
 ghost use Rattle.dfdl_breaches.specs.GatheredShown.{IsGathered};
 ghost use Rattle.dfdl_breaches.specs.JudgementShown.{judgement_of};
-ghost use Rattle.dfdl_breaches.specs.Judging.{hidden_at, judged_at, judgement_at, no_judgement};
+ghost use Rattle.dfdl_breaches.specs.Judging.{built_settings_at, hidden_at, judged_at, judgement_at, no_judgement};
 ghost use Rattle.dfdl_breaches.specs.KeptShown.{AreKept};
 ghost use Rattle.dfdl_breaches.specs.Roots as spec;
 ghost use Rattle.dfdl_breaches.specs.Standing.{standing_at};
 ghost use Rattle.dfdl_breaches.specs.StandingShown.{AreStandings};
 
 use crate::chain::chain_at;
+use crate::check_list::CheckList;
 use crate::entries::entries_of;
 use crate::formats::formats_of;
 use crate::gathered::{Gathered, gather};
@@ -26,11 +28,13 @@ use crate::judging::judge;
 use crate::kept::Kept;
 use crate::prefixes::lent;
 use crate::root::root_of;
+use crate::setting_list::SettingList;
+use crate::settings::{are_some, settings_for, settings_of, settings_where};
 use crate::sites::sites_of;
 use crate::standing::{standing_at, standings_of};
 use crate::test_list::TestList;
 use dfdl_chains::{chain_sites, facts_at, is_component, kind_at};
-use dfdl_checks::{Markup, OtherRepresentations, Purpose, Standing, Subject, bit_order};
+use dfdl_checks::{Markup, OtherRepresentations, Purpose, Standing, Subject, bit_order, kind_for};
 use dfdl_components::{Schema, Site};
 use dfdl_edge::Patterns;
 use dfdl_forms::BitOrder;
@@ -81,6 +85,7 @@ fn judged_by<'p, 'e, 's, P: Patterns>(
     standing: Standing,
     sites: &[Site],
     own: &'p Gathered<'e, 's>,
+    settings: Vec<Site>,
     patterns: &mut P,
 ) -> Result<Judgement, AllocError>
     requires kept { AreKept schema.now kept.now }
@@ -90,8 +95,9 @@ fn judged_by<'p, 'e, 's, P: Patterns>(
     requires chain { sites.now ≡ chain_sites schema.now site }
     requires within { All (IsSite schema.now) sites.now }
     requires own { IsGathered schema.now site own.now }
+    requires settings { settings.items ≡ settings_at schema.now site }
     ensures { IsToldBy (patterns_of (judged_at purpose never schema.now site))
-        (λ is_refused. judgement_of (hidden_at purpose schema.now site) (judged_at purpose (always is_refused) schema.now site))
+        (λ is_refused. judgement_of (hidden_at purpose schema.now site) (built_settings_at purpose schema.now site) (judged_at purpose (always is_refused) schema.now site))
         (record { faults = P.faults patterns.old; last = P.last_refused patterns.old })
         (record { faults = P.faults patterns.new; last = P.last_refused patterns.new }) result }
 {
@@ -99,9 +105,10 @@ fn judged_by<'p, 'e, 's, P: Patterns>(
     let facts = facts_at(schema, site, sites);
     let hiding = hiding_at(schema, purpose, kind, facts, site, sites, &own.chain);
     let is_hidden = hides(hiding);
+    let settings = settings_where(alloc, is_hidden, settings);
     let subject = Subject {
         purpose,
-        kind: kind_where(is_hidden, kind),
+        kind: kind_for(purpose, facts, &own.chain, kind_where(is_hidden, kind)),
         place: schema.place(site),
         chain: &own.chain,
         facts: facts_where(is_hidden, facts),
@@ -110,10 +117,12 @@ fn judged_by<'p, 'e, 's, P: Patterns>(
         scheme: own.scheme,
         pattern_is_refused: false,
         tests: tests_where(is_hidden, own.tests.as_slice()),
+        sets_variables: are_some(&settings),
         standing,
         group_is_unknown: is_unknown(hiding),
     };
-    judge(alloc, &subject, content_hidden(hiding), patterns)
+    let settings = settings_for(alloc, purpose, settings);
+    judge(alloc, &subject, content_hidden(hiding), settings, patterns)
 }
 
 // What is told of a component whose chain has these elements.
@@ -135,13 +144,14 @@ fn judged<'s, P: Patterns>(
     requires chain { sites.now ≡ chain_sites schema.now site }
     requires within { All (IsSite schema.now) sites.now }
     ensures { IsToldBy (patterns_of (judged_at purpose never schema.now site))
-        (λ is_refused. judgement_of (hidden_at purpose schema.now site) (judged_at purpose (always is_refused) schema.now site))
+        (λ is_refused. judgement_of (hidden_at purpose schema.now site) (built_settings_at purpose schema.now site) (judged_at purpose (always is_refused) schema.now site))
         (record { faults = P.faults patterns.old; last = P.last_refused patterns.old })
         (record { faults = P.faults patterns.new; last = P.last_refused patterns.new }) result }
 {
     let own = gather(alloc, kept, schema, site, sites)?;
+    let settings = settings_of(alloc, schema, site, sites)?;
     judged_by(
-        alloc, kept, schema, purpose, bits_by, site, standing, sites, &own, patterns,
+        alloc, kept, schema, purpose, bits_by, site, standing, sites, &own, settings, patterns,
     )
 }
 
@@ -212,6 +222,9 @@ fn nothing_told(alloc: Global) -> Judgement
         is_parsed: false,
         initiates: false,
         tests: TestList::from_vec(Vec::new(alloc)),
+        checks: CheckList::from_vec(Vec::new(alloc)),
+        settings: SettingList::from_vec(Vec::new(alloc)),
+        calculation: None,
         hidden: None,
     }
 }
@@ -287,7 +300,8 @@ fn judgements<'s, P: Patterns>(
 
 /// What is told of each element of a schema's documents, in the order of their numbers: of a component
 /// the first rule that it breaks, how its values, what tells its length and its other representations lie in the data, the fill
-/// and the box around its content, its tests, and the group that it hides; of every other element nothing.
+/// and the box around its content, its tests and settings, by which expression its value is calculated, and the group that it hides;
+/// of every other element nothing.
 ///
 /// What its rows are made for decides which forms are built. The order of bits is that of the root, which is found once. The
 /// properties of each element are collected once, and each format is joined once. What groups ask of their parts is noted once, before

@@ -10,7 +10,7 @@ pub struct TestList {
 
 impl Model for TestList {
     ghost use Rattle.std.specs.Prelude.{List};
-    ghost use Rattle.dfdl_terms.specs.declared.asserting.PatternTest.{PatternTest as TestOf};
+    ghost use Rattle.dfdl_terms.specs.declared.statement.PatternTest.{PatternTest as TestOf};
 
     ghost Value = { List TestOf };
 

@@ -1,5 +1,5 @@
 // The tests of components that are built.
-ghost use Rattle.std.specs.Prelude.{◌≡◌, ◌++◌, ◌∷◌, [], IfOk, OnOk, Some, map, option_copied};
+ghost use Rattle.std.specs.Prelude.{◌≡◌, ◌++◌, ◌∷◌, [], OnOk, Some, map};
 ghost use Rattle.dfdl_length_patterns.specs.Patterns.{anchored};
 ghost use Rattle.dfdl_checks.specs.JudgedShown.{judged_of, test_judged_of};
 ghost use Rattle.dfdl_checks.specs.Patterns as texts;
@@ -7,23 +7,12 @@ ghost use Rattle.dfdl_checks.specs.Tests as spec;
 ghost use Rattle.dfdl_breaches.specs.BuildsShown.{BuildsBehind, BuildsTo};
 
 use crate::test_list::TestList;
-use dfdl_checks::{Purpose, StatedTest, Subject, pattern_encoding, test_pattern};
+use dfdl_checks::{StatedTest, Subject, message_of, pattern_encoding, test_pattern, tests_for};
 use dfdl_edge::{PatternRefusal, Patterns};
 use dfdl_forms::Encoding;
 use dfdl_length_patterns::LengthPattern;
 use dfdl_terms::{PatternForm, PatternTest};
-use dfdl_value::TextValue;
 use std::alloc::{AllocError, Global};
-
-// A message, where there is one.
-fn message_of(alloc: Global, message: Option<&str>) -> Result<Option<TextValue>, AllocError>
-    ensures { IfOk result (λ made. made ≡ option_copied message.entry) }
-{
-    match message {
-        Some(message) => Ok(Some(TextValue::from_str(alloc, message)?)),
-        None => Ok(None),
-    }
-}
 
 // Adds a test of this pattern, which is of this text, where its encoding is told.
 fn push_built(
@@ -110,16 +99,6 @@ fn build_tests<P: Patterns>(
         }
     }
     Ok(TestList::from_vec(built))
-}
-
-// The tests that are built for a purpose.
-fn tests_for<'p, 'c>(purpose: Purpose, tests: &'p [StatedTest<'c>]) -> &'p [StatedTest<'c>]
-    ensures { map test_judged_of result.now ≡ spec.tests_for purpose (map test_judged_of tests.now) }
-{
-    match purpose {
-        Purpose::Parsing => tests,
-        Purpose::Unparsing => &[],
-    }
 }
 
 /// The tests of a component that are built for its purpose, one after another.

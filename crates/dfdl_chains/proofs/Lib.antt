@@ -5,3 +5,4 @@ mod Finding
 mod Digits
 mod Naming
 mod GroupsNamed
+mod Stated

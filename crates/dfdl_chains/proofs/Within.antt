@@ -166,7 +166,7 @@ find_is test [] x e = absurd (none x e)
     none y never = cc
 find_is test (y ∷ ys) x e = find_by test y x (find test ys) (find_is test ys x) (test y) refl e
 
-first_holds : (a b : Bool) → (a && b) ≡ true → a ≡ true
+pub first_holds : (a b : Bool) → (a && b) ≡ true → a ≡ true
 first_holds true b e = refl
 first_holds false b e = e
 

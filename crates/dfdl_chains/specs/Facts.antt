@@ -1,7 +1,7 @@
 -- What a component states besides its properties. Of a reference and its declaration the reference says
 -- how often the element occurs, and the declaration whether it may be nil and which default it has ('DFDL
 -- Schema Component Model').
-use Rattle.std.specs.Prelude.{ℕ, List, [], ◌∷◌, ◌&&◌, ◌||◌, if◌then◌else◌, Bool, true, false, nat_lt, length, Option, Some, None, codes, bytes_eq}
+use Rattle.std.specs.Prelude.{ℕ, List, ◌&&◌, ◌||◌, if◌then◌else◌, Bool, true, false, nat_lt, length, Option, Some, None, codes, bytes_eq}
 use Rattle.std.specs.List.{list_any}
 use Rattle.dfdl_markup.specs.Trees.{Node, node_at}
 use Rattle.dfdl_constructs.specs.declared.role.Role.{Role}
@@ -60,11 +60,15 @@ is_nillable documents own = is_true (attribute_of documents (declaration documen
 abbrev pub default_of : List SchemaDocument → Site → Option (List ℕ)
 default_of documents own = attribute_of documents (declaration documents own) (codes "default")
 
--- a setVariable or a newVariableInstance
-abbrev pub is_setting : Role → Bool
-is_setting role.SetVariable = true
-is_setting role.NewVariableInstance = true
-is_setting _ = false
+-- an element that is declared where it stands
+abbrev pub is_local : Role → Bool
+is_local role.LocalElement = true
+is_local _ = false
+
+-- a newVariableInstance
+abbrev pub is_opening : Role → Bool
+is_opening role.NewVariableInstance = true
+is_opening _ = false
 
 -- an annotation, and the part of one that holds annotations of DFDL's
 abbrev pub is_annotation : Role → Bool
@@ -72,37 +76,38 @@ is_annotation (role.Annotation at) = true
 is_annotation (role.Annotations at) = true
 is_annotation _ = false
 
--- an element of the document is such a statement
-abbrev pub is_setting_at : List Node → ℕ → Bool
-is_setting_at nodes element = nat_lt element (length nodes) && is_setting (role_at nodes element)
+-- an element of the document is a newVariableInstance
+abbrev pub is_opening_at : List Node → ℕ → Bool
+is_opening_at nodes element = nat_lt element (length nodes) && is_opening (role_at nodes element)
 
 -- an element of the document is an annotation, or the part of one that holds annotations of DFDL's
 abbrev pub is_annotation_at : List Node → ℕ → Bool
 is_annotation_at nodes element = nat_lt element (length nodes) && is_annotation (role_at nodes element)
 
--- such a statement stands in the annotations of DFDL's at this element
-abbrev pub sets_in : List Node → ℕ → Bool
-sets_in nodes element =
-    is_annotation_at nodes element && list_any (is_setting_at nodes) (node_at nodes element).children
+-- a newVariableInstance stands in the annotations of DFDL's at this element
+abbrev pub opens_in : List Node → ℕ → Bool
+opens_in nodes element =
+    is_annotation_at nodes element && list_any (is_opening_at nodes) (node_at nodes element).children
 
--- such a statement stands in the annotation
-abbrev pub sets_at : List Node → ℕ → Bool
-sets_at nodes element =
-    is_annotation_at nodes element && list_any (sets_in nodes) (node_at nodes element).children
+-- a newVariableInstance stands in the annotation
+abbrev pub opens_at : List Node → ℕ → Bool
+opens_at nodes element =
+    is_annotation_at nodes element && list_any (opens_in nodes) (node_at nodes element).children
 
--- such a statement stands in the annotations of an element
-abbrev pub has_own_settings : List SchemaDocument → Site → Bool
-has_own_settings documents own =
-    list_any (sets_at (nodes_of documents own.document))
+-- a newVariableInstance stands in the annotations of an element
+abbrev pub has_own_openings : List SchemaDocument → Site → Bool
+has_own_openings documents own =
+    list_any (opens_at (nodes_of documents own.document))
     (node_at (nodes_of documents own.document) own.element).children
 
--- what a component states besides its properties and tests
+-- what a component states besides its properties, tests and settings
 unfoldable pub facts_at : List SchemaDocument → Site → FactsJudged
 facts_at documents own = record {
   bounds = bounds_of documents own;
   is_nillable = is_nillable documents own;
   default = default_of documents own;
-  sets_variables = list_any (has_own_settings documents) (chain_sites documents own);
+  opens_instances = list_any (has_own_openings documents) (chain_sites documents own);
+  is_local = is_local (role_of documents own);
   is_empty = is_none_of (inside_of documents own);
   max_length = max_length documents own;
 }

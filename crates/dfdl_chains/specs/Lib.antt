@@ -11,4 +11,5 @@ pub mod Shown
 pub mod Prefixes
 pub mod NamedShown
 pub mod Tests
+pub mod Settings
 pub mod Hidden

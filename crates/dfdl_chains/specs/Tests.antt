@@ -9,7 +9,7 @@ use Rattle.dfdl_constructs.specs.Roles.{role_at}
 use Rattle.dfdl_documents.specs.Documents.{SchemaDocument}
 use Rattle.dfdl_components.specs.declared.site.Site.{Site}
 use Rattle.dfdl_components.specs.Globals.{site}
-use Rattle.dfdl_components.specs.Sites.{nodes_of, role_of}
+use Rattle.dfdl_components.specs.Sites.{IsSite, nodes_of, role_of}
 use Rattle.dfdl_properties.specs.Forms.{trimmed}
 use Rattle.dfdl_checks.specs.Judged.{TestJudged}
 use Rattle.dfdl_chains.specs.Chains.{chain_sites}
@@ -40,21 +40,35 @@ abbrev pub given_or_inside : Option (List ℕ) → List ℕ → Option (List ℕ
 given_or_inside (Some given) inside = Some given
 given_or_inside None inside = text_if_any (trimmed inside)
 
+-- what the attribute of this name gives, else the text of the element
+abbrev pub given_by : List ℕ → List SchemaDocument → Site → Option (List ℕ)
+given_by name documents own =
+    given_or_inside (attribute_of documents own name) (encode_utf8_all (node_at (nodes_of documents own.document) own.element).text)
+
 -- the pattern of a test: that of its attribute testPattern, else its text
 abbrev pub pattern_of : List SchemaDocument → Site → Option (List ℕ)
-pattern_of documents own =
-    given_or_inside (attribute_of documents own (codes "testPattern"))
-    (encode_utf8_all (node_at (nodes_of documents own.document) own.element).text)
+pattern_of documents own = given_by (codes "testPattern") documents own
+
+-- the expression of a test: that of its attribute test, else its text
+abbrev pub expression_of : List SchemaDocument → Site → Option (List ℕ)
+expression_of documents own = given_by (codes "test") documents own
 
 -- a test, as it is written at an element
 abbrev pub test_at : List SchemaDocument → Site → TestJudged
 test_at documents own = record {
+  document = own.document;
+  element = own.element;
   discriminates = is_discriminator (role_of documents own);
   kind = attribute_of documents own (codes "testKind");
   failure = attribute_of documents own (codes "failureType");
   pattern = pattern_of documents own;
+  test = expression_of documents own;
   message = attribute_of documents own (codes "message");
 }
+
+-- a test is an element of the documents
+abbrev pub IsTestOf : List SchemaDocument → TestJudged → Type 0
+IsTestOf documents test = IsSite documents (site test.document test.element)
 
 -- the test that an element is, if it is one
 abbrev pub test_if : List SchemaDocument → ℕ → ℕ → List TestJudged

@@ -115,12 +115,22 @@ fn default_of<'s>(schema: &'s Schema, site: Site) -> Option<&'s str>
     attribute(schema, declaration(schema, site), "default")
 }
 
-// A setVariable or a newVariableInstance.
-fn is_setting(role: Role) -> bool
-    ensures { result ≡ spec.is_setting role }
+// An element that is declared where it stands.
+fn is_local(role: Role) -> bool
+    ensures { result ≡ spec.is_local role }
 {
     match role {
-        Role::SetVariable | Role::NewVariableInstance => true,
+        Role::LocalElement => true,
+        _ => false,
+    }
+}
+
+// A newVariableInstance.
+fn is_opening(role: Role) -> bool
+    ensures { result ≡ spec.is_opening role }
+{
+    match role {
+        Role::NewVariableInstance => true,
         _ => false,
     }
 }
@@ -135,12 +145,12 @@ fn is_annotation(role: Role) -> bool
     }
 }
 
-// An element of the document is such a statement.
-fn is_setting_at(schema: &Schema, site: Site) -> bool
+// An element of the document is a newVariableInstance.
+fn is_opening_at(schema: &Schema, site: Site) -> bool
     requires { site.document < length schema.now }
-    ensures { result ≡ spec.is_setting_at (nodes_of schema.now site.document) site.element }
+    ensures { result ≡ spec.is_opening_at (nodes_of schema.now site.document) site.element }
 {
-    site.element < schema.tree(site.document).count() && is_setting(schema.role(site))
+    site.element < schema.tree(site.document).count() && is_opening(schema.role(site))
 }
 
 // An element of the document is an annotation, or the part of one that holds annotations of DFDL's.
@@ -151,83 +161,83 @@ pub(crate) fn is_annotation_at(schema: &Schema, site: Site) -> bool
     site.element < schema.tree(site.document).count() && is_annotation(schema.role(site))
 }
 
-// Such a statement stands in an element.
-fn has_setting(schema: &Schema, site: Site) -> bool
+// A newVariableInstance stands in an element.
+fn has_opening(schema: &Schema, site: Site) -> bool
     requires { IsSite schema.now site }
-    ensures { result ≡ list_any (spec.is_setting_at (nodes_of schema.now site.document))
+    ensures { result ≡ list_any (spec.is_opening_at (nodes_of schema.now site.document))
         (node_at (nodes_of schema.now site.document) site.element).children }
 {
     let document = site.document;
     for child in schema.tree(document).children(site.element) {
         let element = *child;
-        if is_setting_at(schema, Site { document, element }) {
+        if is_opening_at(schema, Site { document, element }) {
             return true;
         }
     }
     false
 }
 
-// Such a statement stands in the annotations of DFDL's at this element.
-fn sets_in(schema: &Schema, site: Site) -> bool
+// A newVariableInstance stands in the annotations of DFDL's at this element.
+fn opens_in(schema: &Schema, site: Site) -> bool
     requires { site.document < length schema.now }
-    ensures { result ≡ spec.sets_in (nodes_of schema.now site.document) site.element }
+    ensures { result ≡ spec.opens_in (nodes_of schema.now site.document) site.element }
 {
-    is_annotation_at(schema, site) && has_setting(schema, site)
+    is_annotation_at(schema, site) && has_opening(schema, site)
 }
 
-// Such a statement stands in one of the annotations of DFDL's in an annotation.
-fn has_settings(schema: &Schema, site: Site) -> bool
+// A newVariableInstance stands in one of the annotations of DFDL's in an annotation.
+fn has_openings(schema: &Schema, site: Site) -> bool
     requires { IsSite schema.now site }
-    ensures { result ≡ list_any (spec.sets_in (nodes_of schema.now site.document))
+    ensures { result ≡ list_any (spec.opens_in (nodes_of schema.now site.document))
         (node_at (nodes_of schema.now site.document) site.element).children }
 {
     let document = site.document;
     for child in schema.tree(document).children(site.element) {
         let element = *child;
-        if sets_in(schema, Site { document, element }) {
+        if opens_in(schema, Site { document, element }) {
             return true;
         }
     }
     false
 }
 
-// Such a statement stands in the annotation.
-fn sets_at(schema: &Schema, site: Site) -> bool
+// A newVariableInstance stands in the annotation.
+fn opens_at(schema: &Schema, site: Site) -> bool
     requires { site.document < length schema.now }
-    ensures { result ≡ spec.sets_at (nodes_of schema.now site.document) site.element }
+    ensures { result ≡ spec.opens_at (nodes_of schema.now site.document) site.element }
 {
-    is_annotation_at(schema, site) && has_settings(schema, site)
+    is_annotation_at(schema, site) && has_openings(schema, site)
 }
 
-// Such a statement stands in the annotations of an element.
-fn has_own_settings(schema: &Schema, site: Site) -> bool
+// A newVariableInstance stands in the annotations of an element.
+fn has_own_openings(schema: &Schema, site: Site) -> bool
     requires { IsSite schema.now site }
-    ensures { result ≡ spec.has_own_settings schema.now site }
+    ensures { result ≡ spec.has_own_openings schema.now site }
 {
     let document = site.document;
     for child in schema.tree(document).children(site.element) {
         let element = *child;
-        if sets_at(schema, Site { document, element }) {
+        if opens_at(schema, Site { document, element }) {
             return true;
         }
     }
     false
 }
 
-// Such a statement stands in the annotations of one of these.
-fn have_settings(schema: &Schema, chain: &[Site]) -> bool
+// A newVariableInstance stands in the annotations of one of these.
+fn have_openings(schema: &Schema, chain: &[Site]) -> bool
     requires { All (IsSite schema.now) chain.now }
-    ensures { result ≡ list_any (spec.has_own_settings schema.now) chain.now }
+    ensures { result ≡ list_any (spec.has_own_openings schema.now) chain.now }
 {
     for site in chain {
-        if has_own_settings(schema, *site) {
+        if has_own_openings(schema, *site) {
             return true;
         }
     }
     false
 }
 
-/// What a component with this chain states besides its properties and tests.
+/// What a component with this chain states besides its properties, tests and settings.
 #[tactic(auto, using(crate::proofs::Within::chain_within), unfolding(crate::specs::Facts::facts_at))]
 pub fn facts_at<'s>(schema: &'s Schema, site: Site, chain: &[Site]) -> Facts<'s>
     requires site { IsSite schema.now site }
@@ -238,7 +248,8 @@ pub fn facts_at<'s>(schema: &'s Schema, site: Site, chain: &[Site]) -> Facts<'s>
         bounds: bounds_of(schema, site),
         is_nillable: is_nillable(schema, site),
         default: default_of(schema, site),
-        sets_variables: have_settings(schema, chain),
+        opens_instances: have_openings(schema, chain),
+        is_local: is_local(schema.role(site)),
         is_empty: is_empty(schema, site),
         max_length: max_length(schema, site, chain),
     }

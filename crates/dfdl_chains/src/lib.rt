@@ -1,10 +1,10 @@
 //! What the components of a schema are joined from and consist of: the declaration of an element, its type, its chain of
-//! elements with properties, its parts, its kind, what it states besides properties, its tests, and the type of a length prefix and
-//! the content of a hidden group by their names.
+//! elements with properties, its parts, its kind, what it states besides properties, its tests, what it sets of variables, and the
+//! type of a length prefix and the content of a hidden group by their names.
 //!
 //! Contracts cite `specs/Declarations.antt`, `specs/Derivation.antt`, `specs/Chains.antt`, `specs/Parts.antt`, `specs/Kinds.antt`,
-//! `specs/Lengths.antt`, `specs/Facts.antt`, `specs/Tests.antt`, `specs/Hidden.antt` and `specs/Prefixes.antt`. The chapters are 'DFDL
-//! Schema Component Model' and 'Property Scoping and DFDL Schema Checking'.
+//! `specs/Lengths.antt`, `specs/Facts.antt`, `specs/Tests.antt`, `specs/Settings.antt`, `specs/Hidden.antt` and `specs/Prefixes.antt`. The
+//! chapters are 'DFDL Schema Component Model', 'Syntax of DFDL Annotation Elements' and 'Property Scoping and DFDL Schema Checking'.
 #![tactic(auto)]
 
 mod chain;
@@ -19,6 +19,7 @@ mod named_type;
 mod numbers;
 mod parts;
 mod prefixes;
+mod settings;
 mod simple;
 mod tests;
 mod typed;
@@ -34,5 +35,6 @@ pub use named_type::NamedType;
 pub use numbers::Numbers;
 pub use parts::{is_component, parts_at};
 pub use prefixes::prefix_type;
+pub use settings::{settings_at, statements_are_within};
 pub use tests::tests_at;
 pub use typed::Typed;

@@ -60,13 +60,29 @@ fn given_or_inside<'s>(given: Option<&'s str>, inside: &'s str) -> Option<&'s st
     }
 }
 
+// What the attribute of a name gives, else the text of the element.
+fn given_by<'s>(schema: &'s Schema, site: Site, name: &str) -> Option<&'s str>
+    requires { IsSite schema.now site }
+    ensures { option_copied result ≡ spec.given_by name.now schema.now site }
+{
+    let given = attribute(schema, site, name);
+    given_or_inside(given, schema.tree(site.document).text(site.element))
+}
+
 // The pattern of a test.
 fn pattern_of<'s>(schema: &'s Schema, site: Site) -> Option<&'s str>
     requires { IsSite schema.now site }
     ensures { option_copied result ≡ spec.pattern_of schema.now site }
 {
-    let given = attribute(schema, site, "testPattern");
-    given_or_inside(given, schema.tree(site.document).text(site.element))
+    given_by(schema, site, "testPattern")
+}
+
+// The expression of a test.
+fn expression_of<'s>(schema: &'s Schema, site: Site) -> Option<&'s str>
+    requires { IsSite schema.now site }
+    ensures { option_copied result ≡ spec.expression_of schema.now site }
+{
+    given_by(schema, site, "test")
 }
 
 // A test, as it is written at an element.
@@ -75,10 +91,13 @@ fn test_at<'s>(schema: &'s Schema, site: Site) -> StatedTest<'s>
     ensures { test_judged_of result ≡ spec.test_at schema.now site }
 {
     StatedTest {
+        document: site.document,
+        element: site.element,
         discriminates: is_discriminator(schema.role(site)),
         kind: attribute(schema, site, "testKind"),
         failure: attribute(schema, site, "failureType"),
         pattern: pattern_of(schema, site),
+        test: expression_of(schema, site),
         message: attribute(schema, site, "message"),
     }
 }

@@ -51,6 +51,7 @@ same-component a b alike = λ i. record {
   scheme = alike.scheme i;
   pattern_is_refused = alike.pattern_is_refused i;
   tests = alike.tests i;
+  sets_variables = alike.sets_variables i;
   standing = alike.standing i;
   group_is_unknown = alike.group_is_unknown i;
 }

@@ -9,9 +9,9 @@ use Rattle.dfdl_checks.proofs.Types.{IsOfForm, built-type, number-or-truth, of-t
 use Rattle.dfdl_checks.specs.BuiltTypes.{is_built_type}
 use Rattle.dfdl_checks.specs.Judged.{Judged}
 use Rattle.dfdl_checks.specs.Rules.{first_breach, rules, has_later_type, is_later_group}
-use Rattle.dfdl_checks.specs.Subjects.{is_binary, is_binary_boolean, is_binary_number, is_hidden, is_simple, is_told, is_truths, simple_of, told_at, value_bits}
+use Rattle.dfdl_checks.specs.Subjects.{is_binary, is_binary_boolean, is_binary_number, is_bare, is_simple, is_told, is_truths, simple_of, told_at, value_bits}
 use Rattle.dfdl_checks.specs.declared.subject.Kind.{Kind}
-use Rattle.dfdl_checks.specs.declared.subject.Kind.TheVariants.{ComplexElement, SimpleElement, UncarriedElement, Sequence, HiddenSequence, Choice, PrefixNumber}
+use Rattle.dfdl_checks.specs.declared.subject.Kind.TheVariants.{ComplexElement, SimpleElement, UncarriedElement, CalculatedElement, Sequence, HiddenSequence, Choice, PrefixNumber}
 
 -- what is known of a simple element, or of the type of a prefix, without a breach
 pub record IsSound (s : Judged) : Type 0 where
@@ -32,16 +32,18 @@ pub binary-simple : (kind : Kind) → nat_lt 0 (value_bits kind) ≡ true → is
 binary-simple ComplexElement some = grind (arith, some)
 binary-simple (SimpleElement simple) some = refl
 binary-simple UncarriedElement some = refl
+binary-simple (CalculatedElement simple) some = grind (arith, some)
 binary-simple Sequence some = grind (arith, some)
 binary-simple HiddenSequence some = grind (arith, some)
 binary-simple Choice some = grind (arith, some)
 binary-simple (PrefixNumber simple) some = refl
 
--- no simple element stands for a hidden group
-pub simple-shown : (kind : Kind) → is_simple kind ≡ true → is_hidden kind ≡ false
+-- a simple element with a representation neither stands for a hidden group nor is calculated
+pub simple-shown : (kind : Kind) → is_simple kind ≡ true → is_bare kind ≡ false
 simple-shown ComplexElement is = refl
 simple-shown (SimpleElement simple) is = refl
 simple-shown UncarriedElement is = refl
+simple-shown (CalculatedElement simple) is = grind (arith, is)
 simple-shown Sequence is = refl
 simple-shown HiddenSequence is = grind (arith, is)
 simple-shown Choice is = refl

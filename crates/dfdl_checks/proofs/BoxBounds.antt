@@ -12,7 +12,7 @@ use Rattle.dfdl_checks.specs.Subjects.{is_complex, is_told, is_word, told_at}
 use Rattle.dfdl_checks.specs.declared.purpose.Purpose.{Purpose}
 use Rattle.dfdl_checks.specs.declared.purpose.Purpose.TheVariants.{Parsing, Unparsing}
 use Rattle.dfdl_checks.specs.declared.subject.Kind.{Kind}
-use Rattle.dfdl_checks.specs.declared.subject.Kind.TheVariants.{ComplexElement, SimpleElement, UncarriedElement, Sequence, HiddenSequence, Choice, PrefixNumber}
+use Rattle.dfdl_checks.specs.declared.subject.Kind.TheVariants.{ComplexElement, SimpleElement, UncarriedElement, CalculatedElement, Sequence, HiddenSequence, Choice, PrefixNumber}
 
 -- what is there is one thing
 pub some-is : {A : Type 0} (a b : A) → Some a ≡ Some b → a ≡ b
@@ -99,6 +99,7 @@ complex-is : (kind : Kind) → is_complex kind ≡ true → kind ≡ ComplexElem
 complex-is ComplexElement is = refl
 complex-is (SimpleElement simple) is = grind (arith, is)
 complex-is UncarriedElement is = grind (arith, is)
+complex-is (CalculatedElement simple) is = grind (arith, is)
 complex-is Sequence is = grind (arith, is)
 complex-is HiddenSequence is = grind (arith, is)
 complex-is Choice is = grind (arith, is)

@@ -5,6 +5,7 @@ use Rattle.dfdl_report.specs.declared.cause.SchemaCause.{SchemaCause}
 use Rattle.dfdl_report.specs.declared.cause.SchemaCause.TheVariants as causes
 use Rattle.dfdl_report.specs.declared.place.Place.{Place}
 use Rattle.dfdl_checks.specs.Rules.{breach_of, first_breach, rules, is_unbuilt, property_twice, is_property_missing, is_value_not_carried, is_expression_not_allowed, is_literal_malformed, is_type_not_carried, is_max_length_missing, is_length_kind_not_allowed, is_length_in_characters, is_length_out_of_range, is_prefix_type_not_allowed, is_prefix_not_whole, is_pattern_refused, are_orders_apart, is_second_bit_order, is_character_not_encoded, is_alignment_not_allowed, is_pattern_malformed, are_codes_malformed, are_truths_malformed, is_pad_no_character, is_pad_malformed, is_separator_malformed, are_truth_texts_malformed, is_bytes_encoding_other, is_pad_not_encoded, is_separator_not_encoded, are_truth_texts_not_encoded, is_separator_other, are_separators_unfit, is_base_unfit, is_prefix_type_missing, is_scheme_malformed, is_scheme_unknown}
+use Rattle.dfdl_checks.specs.Calculations.{is_calculation_not_allowed}
 use Rattle.dfdl_checks.specs.Defaults.{is_default_not_allowed}
 use Rattle.dfdl_checks.specs.Delimiters.{is_delimiter_empty, is_delimiter_malformed, is_delimiter_not_encoded}
 use Rattle.dfdl_checks.specs.FillBytes.{is_fill_malformed, is_fill_other}
@@ -13,7 +14,7 @@ use Rattle.dfdl_checks.specs.NewLines.{is_new_line_expression, is_new_line_other
 use Rattle.dfdl_checks.specs.NilValues.{is_nil_not_allowed}
 use Rattle.dfdl_checks.specs.Occurrences.{are_bounds_unfit}
 use Rattle.dfdl_checks.specs.Standings.{is_initiator_missing, is_unbounded_not_allowed}
-use Rattle.dfdl_checks.specs.Tests.{are_tests_other, are_tests_together, is_test_pattern_missing}
+use Rattle.dfdl_checks.specs.Tests.{are_tests_other, are_tests_together, is_test_text_missing}
 use Rattle.dfdl_checks.specs.Nils.{is_nil_malformed, is_nil_not_encoded}
 use Rattle.dfdl_checks.specs.declared.flaw.Flaw.TheVariants as flaws
 use Rattle.dfdl_checks.specs.Judged.{Judged}
@@ -50,6 +51,7 @@ pub record IsKept (s : Judged) : Type 0 where
   pub bounds : are_bounds_unfit s ≡ false
   pub tests : are_tests_together s ≡ false
   pub initiated : is_initiator_missing s ≡ false
+  pub calculated : is_calculation_not_allowed s ≡ false
   pub scheme : is_scheme_malformed s ≡ false
 
 -- no rule of some is broken: neither the first one nor another
@@ -96,7 +98,8 @@ keeps-all s none =
     let bounds_at = first-kept causes.OccurrenceBounds _ _ unbounded_at.1 in
     let tests_at = first-kept causes.TestsTogether _ _ bounds_at.1 in
     let initiated_at = first-kept causes.NoInitiator _ _ tests_at.1 in
-    let scheme_at = first-kept causes.EscapeScheme _ _ initiated_at.1 in
+    let calculated_at = first-kept causes.CalculationNotAllowed _ _ initiated_at.1 in
+    let scheme_at = first-kept causes.EscapeScheme _ _ calculated_at.1 in
     record {
       built = itself-kept _ s.place built_at.0;
       once = once_at.0;
@@ -127,6 +130,7 @@ keeps-all s none =
       bounds = itself-kept _ s.place bounds_at.0;
       tests = itself-kept _ s.place tests_at.0;
       initiated = itself-kept _ s.place initiated_at.0;
+      calculated = itself-kept _ s.place calculated_at.0;
       scheme = itself-kept _ s.place scheme_at.0;
     }
 
@@ -178,7 +182,7 @@ values-kept s kept =
 
 -- each property that applies is given
 pub given-kept : (s : Judged) → IsKept s → has_flaw flaws.Missing s ≡ false
-given-kept s kept = first-of-two (has_flaw flaws.Missing s) (is_test_pattern_missing s) kept.given
+given-kept s kept = first-of-two (has_flaw flaws.Missing s) (is_test_text_missing s) kept.given
 
 -- no property that applies has an expression where none may stand
 pub expressions-kept : (s : Judged) → IsKept s → has_flaw flaws.Expression s ≡ false

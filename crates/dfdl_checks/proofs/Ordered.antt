@@ -11,7 +11,7 @@ use Rattle.dfdl_checks.proofs.Primitives.{ordered}
 use Rattle.dfdl_checks.specs.Judged.{Judged}
 use Rattle.dfdl_checks.specs.Numbers.{HasBitOrder, IsInBitOrder}
 use Rattle.dfdl_checks.specs.Orders.{bit_order, field_order, is_same_order, order_for, told_order}
-use Rattle.dfdl_checks.specs.Subjects.{is_hidden}
+use Rattle.dfdl_checks.specs.Subjects.{is_bare}
 use Rattle.dfdl_checks.specs.Table.{Applicability, applies_by, built_for, EveryValue, word, applicability_table}
 use Rattle.dfdl_checks.specs.declared.applicability.Bearers.TheVariants as bearers
 use Rattle.dfdl_checks.specs.declared.purpose.Purpose.{Purpose}
@@ -35,18 +35,18 @@ same-order LeastFirst LeastFirst same = refl
 same-order MostFirst LeastFirst same = grind (arith, same)
 same-order LeastFirst MostFirst same = grind (arith, same)
 
--- orders of a component that is no hidden sequence
+-- orders of a component that neither is a hidden sequence nor calculated
 same-orders : (hidden : Bool) (a b : BitOrder) → hidden ≡ false → (not hidden && not (is_same_order a b)) ≡ false → a ≡ b
 same-orders hidden a b shown kept = same-order a b (by (is_same_order a b) kept)
   where
     by : (same : Bool) → (not hidden && not same) ≡ false → not same ≡ false
     by same kept = grind (arith, kept, shown)
 
-pub in-bit-order : (s : Judged) → IsKept s → is_hidden s.kind ≡ false → IsInBitOrder s
+pub in-bit-order : (s : Judged) → IsKept s → is_bare s.kind ≡ false → IsInBitOrder s
 unfolding applicability_table property_table
 in-bit-order s kept shown = record {
   primitive = λ p is. subst (λ order. HasBitOrder order p) told (ordered s p is);
-  root = same-orders (is_hidden s.kind) (told_order s) s.root_bits_by shown kept.bit_order;
+  root = same-orders (is_bare s.kind) (told_order s) s.root_bits_by shown kept.bit_order;
 }
   where
     told : field_order s ≡ told_order s

@@ -7,7 +7,7 @@ use Rattle.dfdl_checks.proofs.Built.{other-word}
 use Rattle.dfdl_checks.specs.Judged.{Judged}
 use Rattle.dfdl_checks.specs.Patterns.{form_by, is_measured, length_pattern, pattern_encoding, pattern_for, pattern_prefix, pattern_told}
 use Rattle.dfdl_checks.specs.Prefixes.{form_of_type, judged_integer, prefix_for, prefix_of}
-use Rattle.dfdl_checks.specs.Subjects.{is_binary_number, is_element, is_group, is_prefixed, is_told, told_at}
+use Rattle.dfdl_checks.specs.Subjects.{is_binary_number, is_element, is_without_length, is_prefixed, is_told, told_at}
 use Rattle.dfdl_checks.specs.declared.prefixes.PrefixForm.{PrefixForm}
 use Rattle.dfdl_checks.specs.declared.purpose.Purpose.{Purpose}
 use Rattle.dfdl_checks.specs.declared.purpose.Purpose.TheVariants.{Parsing, Unparsing}
@@ -49,7 +49,7 @@ pattern-alone s f is = of-purpose s.purpose
   where
     pattern-told : is_told s (codes "lengthKind") (codes "pattern") ≡ true
     pattern-told =
-        inner (is_element s.kind) (is_group s.kind) (is_told s (codes "lengthKind") (codes "pattern")) (is_binary_number s)
+        inner (is_element s.kind) (is_without_length s.kind) (is_told s (codes "lengthKind") (codes "pattern")) (is_binary_number s)
         (measured s s.purpose (prefix-is s f is).text (prefix-is s f is).told)
       where
         inner : (a b c d : Bool) → (a && (not b && c) && not d) ≡ true → c ≡ true
@@ -57,7 +57,7 @@ pattern-alone s f is = of-purpose s.purpose
 
     no-prefix : is_prefixed s ≡ false
     no-prefix =
-        second (is_group s.kind) (is_told s (codes "lengthKind") (codes "prefixed"))
+        second (is_without_length s.kind) (is_told s (codes "lengthKind") (codes "prefixed"))
         (other-word (codes "pattern") (codes "prefixed") refl (told_at s (codes "lengthKind")) pattern-told)
       where
         second : (a b : Bool) → b ≡ false → (not a && b) ≡ false

@@ -43,7 +43,7 @@ use Rattle.dfdl_checks.specs.Values.{is_number}
 use Rattle.dfdl_checks.specs.declared.purpose.Purpose.{Purpose}
 use Rattle.dfdl_checks.specs.declared.purpose.Purpose.TheVariants.{Parsing, Unparsing}
 use Rattle.dfdl_checks.specs.declared.subject.Kind.{Kind}
-use Rattle.dfdl_checks.specs.declared.subject.Kind.TheVariants.{ComplexElement, SimpleElement, UncarriedElement, Sequence, HiddenSequence, Choice, PrefixNumber}
+use Rattle.dfdl_checks.specs.declared.subject.Kind.TheVariants.{ComplexElement, SimpleElement, UncarriedElement, CalculatedElement, Sequence, HiddenSequence, Choice, PrefixNumber}
 use Rattle.dfdl_checks.specs.Judged.{Judged}
 
 -- the primitive of a component is a binary integer or decimal of its type, by what is told of it
@@ -246,6 +246,7 @@ kind-of : (s : Judged) (kind : Kind) → s.kind ≡ kind → IsOfIf s (primitive
 kind-of s ComplexElement at = tt
 kind-of s (SimpleElement simple) at = type-of s simple (ap simple_of at)
 kind-of s UncarriedElement at = tt
+kind-of s (CalculatedElement simple) at = tt
 kind-of s Sequence at = tt
 kind-of s HiddenSequence at = tt
 kind-of s Choice at = tt

@@ -35,7 +35,7 @@ use Rattle.dfdl_checks.specs.declared.orders.Orders.{Orders}
 use Rattle.dfdl_checks.specs.declared.purpose.Purpose.{Purpose}
 use Rattle.dfdl_checks.specs.declared.purpose.Purpose.TheVariants.{Parsing, Unparsing}
 use Rattle.dfdl_checks.specs.declared.subject.Kind.{Kind}
-use Rattle.dfdl_checks.specs.declared.subject.Kind.TheVariants.{ComplexElement, SimpleElement, UncarriedElement, Sequence, HiddenSequence, Choice, PrefixNumber}
+use Rattle.dfdl_checks.specs.declared.subject.Kind.TheVariants.{ComplexElement, SimpleElement, UncarriedElement, CalculatedElement, Sequence, HiddenSequence, Choice, PrefixNumber}
 
 some-length : (unit : ℕ) (number : Option ℕ) → is_some number ≡ true → is_some (length_in unit number) ≡ true
 some-length unit (Some n) some = refl
@@ -323,6 +323,7 @@ of-kind : (s : Judged) (kind : Kind) (simple : Simple) → simple_of kind ≡ So
 of-kind s ComplexElement simple is some = absurd (none-some _ is)
 of-kind s (SimpleElement t) simple is some = subst (λ t. is_some (primitive_of_type s t) ≡ true) (sym (some-is t simple is)) some
 of-kind s UncarriedElement simple is some = absurd (none-some _ is)
+of-kind s (CalculatedElement t) simple is some = absurd (none-some _ is)
 of-kind s Sequence simple is some = absurd (none-some _ is)
 of-kind s HiddenSequence simple is some = absurd (none-some _ is)
 of-kind s Choice simple is some = absurd (none-some _ is)

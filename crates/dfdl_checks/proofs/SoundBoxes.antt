@@ -20,13 +20,13 @@ use Rattle.dfdl_checks.specs.Lengths.{number_told}
 use Rattle.dfdl_checks.specs.Numbers.{IsTextOrBytesValue}
 use Rattle.dfdl_checks.specs.Orders.{field_order}
 use Rattle.dfdl_checks.specs.Rules.{first_breach, rules, is_delimited_boolean, is_field_out_of_range, is_number_length_not_allowed}
-use Rattle.dfdl_checks.specs.Subjects.{has_delimited_length, is_boolean, is_boxed, is_complex, is_explicit, is_group, is_hex_binary, is_hidden, is_simple, is_sized_by_data, is_string, is_text, is_text_boolean, is_text_number, is_told, number_bits, told_at}
+use Rattle.dfdl_checks.specs.Subjects.{has_delimited_length, is_boolean, is_boxed, is_complex, is_explicit, is_without_length, is_hex_binary, is_bare, is_simple, is_sized_by_data, is_string, is_text, is_text_boolean, is_text_number, is_told, number_bits, told_at}
 use Rattle.dfdl_checks.specs.Table.{EachNumber, EveryValue, applicability_table}
 use Rattle.dfdl_checks.specs.Texts.{delimited_octets, octets_by, octets_of}
 use Rattle.dfdl_checks.specs.declared.applicability.Bearers.TheVariants as bearers
 use Rattle.dfdl_checks.specs.declared.purpose.Purpose.TheVariants.{Parsing}
 use Rattle.dfdl_checks.specs.declared.subject.Kind.{Kind}
-use Rattle.dfdl_checks.specs.declared.subject.Kind.TheVariants.{ComplexElement, SimpleElement, UncarriedElement, Sequence, HiddenSequence, Choice, PrefixNumber}
+use Rattle.dfdl_checks.specs.declared.subject.Kind.TheVariants.{ComplexElement, SimpleElement, UncarriedElement, CalculatedElement, Sequence, HiddenSequence, Choice, PrefixNumber}
 
 -- a number is told where a number is built
 pub number-told : (r : Row) (t : Told) → HasBuilt r EachNumber t → is_some (number_told t) ≡ true
@@ -110,15 +110,16 @@ has-box s none purpose explicit =
         let has = parts (is_text s) (is_hex_binary s.kind) (is_complex s.kind) (is_explicit s) (is_sized_by_data s) (is_implicit_box s) explicit in
         some-units s (keeps-all s none) has.0 has.1
 
--- no simple element is a group
-no-group : (kind : Kind) → is_simple kind ≡ true → is_group kind ≡ false
-no-group ComplexElement is = refl
-no-group (SimpleElement simple) is = refl
-no-group UncarriedElement is = refl
-no-group Sequence is = grind (arith, is)
-no-group HiddenSequence is = grind (arith, is)
-no-group Choice is = grind (arith, is)
-no-group (PrefixNumber simple) is = refl
+-- a simple element with a representation may have a length
+with-length : (kind : Kind) → is_simple kind ≡ true → is_without_length kind ≡ false
+with-length ComplexElement is = refl
+with-length (SimpleElement simple) is = refl
+with-length UncarriedElement is = refl
+with-length (CalculatedElement simple) is = grind (arith, is)
+with-length Sequence is = grind (arith, is)
+with-length HiddenSequence is = grind (arith, is)
+with-length Choice is = grind (arith, is)
+with-length (PrefixNumber simple) is = refl
 
 -- of a simple element whose length the data tell, a length prefix, a pattern or a delimited length is told
 pub sized-is : (s : Judged) → is_simple s.kind ≡ true
@@ -128,7 +129,7 @@ sized-is s simple =
     ap
     (λ b. (not b && is_told s (codes "lengthKind") (codes "prefixed")) || (not b && is_told s (codes "lengthKind") (codes "pattern"))
     || (not b && is_told s (codes "lengthKind") (codes "delimited")))
-    (no-group s.kind simple)
+    (with-length s.kind simple)
 
 -- a text or bytes stand in a box
 value-boxed : (s : Judged) → (is_text s || is_hex_binary s.kind) ≡ true → is_boxed s ≡ true
@@ -186,13 +187,14 @@ unfolding applicability_table property_table
 some-encoding s kept text =
     encoding-told (codes "encoding") _ (built-at s kept 1 (codes "encoding") bearers.Texts EveryValue refl text _ refl refl)
 
--- neither texts nor bytes stand for a hidden group
+-- neither texts nor bytes stand for a hidden group or are calculated
 text-shown : (kind : Kind) (textual : Bool)
     → ((is_string kind || (nat_lt 0 (number_bits kind) && textual) || (is_boolean kind && textual)) || is_hex_binary kind) ≡ true
-    → is_hidden kind ≡ false
+    → is_bare kind ≡ false
 text-shown ComplexElement textual is = refl
 text-shown (SimpleElement simple) textual is = refl
 text-shown UncarriedElement textual is = refl
+text-shown (CalculatedElement simple) textual is = grind (arith, is)
 text-shown Sequence textual is = refl
 text-shown HiddenSequence textual is = grind (arith, is)
 text-shown Choice textual is = refl

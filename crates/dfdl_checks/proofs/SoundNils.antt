@@ -35,7 +35,7 @@ use Rattle.dfdl_checks.specs.Table.{EveryValue, applicability_table}
 use Rattle.dfdl_checks.specs.declared.applicability.Bearers.TheVariants as bearers
 use Rattle.dfdl_checks.specs.declared.purpose.Purpose.TheVariants.{Parsing}
 use Rattle.dfdl_checks.specs.declared.subject.Kind.{Kind}
-use Rattle.dfdl_checks.specs.declared.subject.Kind.TheVariants.{ComplexElement, SimpleElement, UncarriedElement, Sequence, HiddenSequence, Choice, PrefixNumber}
+use Rattle.dfdl_checks.specs.declared.subject.Kind.TheVariants.{ComplexElement, SimpleElement, UncarriedElement, CalculatedElement, Sequence, HiddenSequence, Choice, PrefixNumber}
 
 -- of three words, one is told
 one-of-three : (x y z name : List ℕ) (t : Told) → HasBuilt (row name (Words (x ∷ y ∷ z ∷ [])) Missing) EveryValue t
@@ -201,6 +201,7 @@ of-kind s (SimpleElement simple) (Some p) is carried told some has = of-type s s
 of-kind s (SimpleElement simple) None is carried told some has = grind (arith, some)
 of-kind s ComplexElement o is carried told some has = grind (arith, is)
 of-kind s UncarriedElement o is carried told some has = grind (arith, carried)
+of-kind s (CalculatedElement simple) o is carried told some has = grind (arith, is)
 of-kind s Sequence o is carried told some has = grind (arith, is)
 of-kind s HiddenSequence o is carried told some has = grind (arith, is)
 of-kind s Choice o is carried told some has = grind (arith, is)

@@ -12,7 +12,7 @@ use Rattle.dfdl_checks.proofs.SoundBoxes.{encoding-told}
 use Rattle.dfdl_checks.specs.Judged.{Judged}
 use Rattle.dfdl_checks.specs.Patterns.{form_by, is_measured, length_pattern, pattern_encoding, pattern_for, pattern_prefix, pattern_told}
 use Rattle.dfdl_checks.specs.Rules.{first_breach, is_delimited_boolean, is_length_without_size, is_text_without_size, rules}
-use Rattle.dfdl_checks.specs.Subjects.{is_binary_number, is_by_pattern, is_element, is_group, is_told, told_at}
+use Rattle.dfdl_checks.specs.Subjects.{is_binary_number, is_by_pattern, is_element, is_without_length, is_told, told_at}
 use Rattle.dfdl_checks.specs.Table.{EveryValue, applicability_table}
 use Rattle.dfdl_checks.specs.declared.applicability.Bearers.TheVariants as bearers
 use Rattle.dfdl_checks.specs.declared.purpose.Purpose.TheVariants.{Parsing}
@@ -34,7 +34,7 @@ some-form (Some e) None x y = grind (arith, y)
 module _ (s : Judged) (kept : IsKept s) (element : is_element s.kind ≡ true) (by-pattern : is_by_pattern s ≡ true) where
   -- its length is told to be by a pattern
   kind-told : is_told s (codes "lengthKind") (codes "pattern") ≡ true
-  kind-told = second (is_group s.kind) (is_told s (codes "lengthKind") (codes "pattern")) by-pattern
+  kind-told = second (is_without_length s.kind) (is_told s (codes "lengthKind") (codes "pattern")) by-pattern
     where
       second : (a b : Bool) → (not a && b) ≡ true → b ≡ true
       second a b h = grind (arith, h)

@@ -47,7 +47,7 @@ use Rattle.dfdl_checks.specs.Texts.{boxed_size, content_of, number_text, pad_of,
 use Rattle.dfdl_checks.specs.declared.applicability.Bearers.TheVariants as bearers
 use Rattle.dfdl_checks.specs.declared.flaw.Flaw.TheVariants as flaws
 use Rattle.dfdl_checks.specs.declared.subject.Kind.{Kind}
-use Rattle.dfdl_checks.specs.declared.subject.Kind.TheVariants.{ComplexElement, SimpleElement, UncarriedElement, Sequence, HiddenSequence, Choice, PrefixNumber}
+use Rattle.dfdl_checks.specs.declared.subject.Kind.TheVariants.{ComplexElement, SimpleElement, UncarriedElement, CalculatedElement, Sequence, HiddenSequence, Choice, PrefixNumber}
 
 -- two lists of texts stand for true and false
 some-truths : (truths falses : TextList) (fold : Bool) → (is_list_malformed truths || is_list_malformed falses) ≡ false
@@ -94,6 +94,7 @@ zoned-rule : (s : Judged) (kind : Kind) (simple : Simple) → simple_of kind ≡
 zoned-rule s ComplexElement simple is kept = absurd (none-some _ is)
 zoned-rule s (SimpleElement t) simple is kept = subst (λ t. IsZonedKept s t) (some-is t simple is) kept
 zoned-rule s UncarriedElement simple is kept = absurd (none-some _ is)
+zoned-rule s (CalculatedElement t) simple is kept = absurd (none-some _ is)
 zoned-rule s Sequence simple is kept = absurd (none-some _ is)
 zoned-rule s HiddenSequence simple is kept = absurd (none-some _ is)
 zoned-rule s Choice simple is kept = absurd (none-some _ is)

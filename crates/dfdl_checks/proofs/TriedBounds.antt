@@ -20,7 +20,7 @@ use Rattle.dfdl_checks.specs.Representations.{can_be_empty, default_in, nil_by, 
 use Rattle.dfdl_checks.specs.declared.purpose.Purpose.{Purpose}
 use Rattle.dfdl_checks.specs.declared.purpose.Purpose.TheVariants.{Parsing, Unparsing}
 use Rattle.dfdl_checks.specs.declared.subject.Kind.{Kind}
-use Rattle.dfdl_checks.specs.declared.subject.Kind.TheVariants.{ComplexElement, SimpleElement, UncarriedElement, Sequence, HiddenSequence, Choice, PrefixNumber}
+use Rattle.dfdl_checks.specs.declared.subject.Kind.TheVariants.{ComplexElement, SimpleElement, UncarriedElement, CalculatedElement, Sequence, HiddenSequence, Choice, PrefixNumber}
 
 -- the fields of a primitive are no longer than the greatest length
 size-bounded : (p : Primitive) → IsPrimitive p → IsTextSize (size_of p)
@@ -68,6 +68,7 @@ module _ (patterns : ArePatternsBounded) (s : Judged) (q : Primitive) where
   nil-of-kind (SimpleElement simple) None told is = absurd (none-some _ is)
   nil-of-kind ComplexElement o told is = absurd (none-some _ is)
   nil-of-kind UncarriedElement o told is = absurd (none-some _ is)
+  nil-of-kind (CalculatedElement simple) o told is = absurd (none-some _ is)
   nil-of-kind Sequence o told is = absurd (none-some _ is)
   nil-of-kind HiddenSequence o told is = absurd (none-some _ is)
   nil-of-kind Choice o told is = absurd (none-some _ is)
@@ -104,6 +105,7 @@ module _ (patterns : ArePatternsBounded) (s : Judged) (q : Primitive) (written :
   empty-of-kind (SimpleElement simple) None told is = absurd (none-some _ is)
   empty-of-kind ComplexElement o told is = absurd (none-some _ is)
   empty-of-kind UncarriedElement o told is = absurd (none-some _ is)
+  empty-of-kind (CalculatedElement simple) o told is = absurd (none-some _ is)
   empty-of-kind Sequence o told is = absurd (none-some _ is)
   empty-of-kind HiddenSequence o told is = absurd (none-some _ is)
   empty-of-kind Choice o told is = absurd (none-some _ is)

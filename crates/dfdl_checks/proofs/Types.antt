@@ -11,7 +11,7 @@ use Rattle.dfdl_checks.specs.Rules.{has_later_type, is_type_not_carried}
 use Rattle.dfdl_checks.specs.Subjects.{binary_bits, has_point, has_representation, is_boolean, is_characters, is_decimal, is_hex_binary, is_octets, is_represented, is_simple, is_string, is_truths, number_bits, simple_of, value_bits}
 use Rattle.dfdl_checks.specs.declared.purpose.Purpose.{Purpose}
 use Rattle.dfdl_checks.specs.declared.subject.Kind.{Kind}
-use Rattle.dfdl_checks.specs.declared.subject.Kind.TheVariants.{ComplexElement, SimpleElement, UncarriedElement, Sequence, HiddenSequence, Choice, PrefixNumber}
+use Rattle.dfdl_checks.specs.declared.subject.Kind.TheVariants.{ComplexElement, SimpleElement, UncarriedElement, CalculatedElement, Sequence, HiddenSequence, Choice, PrefixNumber}
 
 -- a value with a representation has a binary form
 pub represented-value : (simple : Simple) → has_representation (form_of simple) ≡ true → nat_lt 0 (binary_bits (form_of simple)) ≡ true
@@ -222,6 +222,7 @@ pub of-type : (kind : Kind) (simple : Simple) → simple_of kind ≡ Some simple
 of-type ComplexElement simple is = none-simple simple is
 of-type (SimpleElement t) simple is = same-form (SimpleElement t) t simple (element-form t) is
 of-type UncarriedElement simple is = none-simple simple is
+of-type (CalculatedElement t) simple is = none-simple simple is
 of-type Sequence simple is = none-simple simple is
 of-type HiddenSequence simple is = none-simple simple is
 of-type Choice simple is = none-simple simple is
@@ -243,6 +244,7 @@ built-type purpose ComplexElement later typed is = grind (arith, is)
 built-type purpose (SimpleElement simple) later typed is =
     record { simple = simple; kind_is = refl; built = turned (is_built_type purpose simple) later }
 built-type purpose UncarriedElement later typed is = grind (arith, typed)
+built-type purpose (CalculatedElement simple) later typed is = grind (arith, is)
 built-type purpose Sequence later typed is = grind (arith, is)
 built-type purpose HiddenSequence later typed is = grind (arith, is)
 built-type purpose Choice later typed is = grind (arith, is)

@@ -41,5 +41,6 @@ pub record IsAlike (a b : Judged) : Type 0 where
   pub scheme : a.scheme ≡ b.scheme
   pub pattern_is_refused : a.pattern_is_refused ≡ b.pattern_is_refused
   pub tests : a.tests ≡ b.tests
+  pub sets_variables : a.sets_variables ≡ b.sets_variables
   pub standing : a.standing ≡ b.standing
   pub group_is_unknown : a.group_is_unknown ≡ b.group_is_unknown

@@ -7,7 +7,7 @@ use Rattle.dfdl_checks.specs.Occurrences.{is_counted}
 use Rattle.dfdl_checks.specs.Orders.{is_least_first}
 use Rattle.dfdl_checks.specs.NumberTexts.{base_of}
 use Rattle.dfdl_checks.specs.Pads.{is_padded_text}
-use Rattle.dfdl_checks.specs.Subjects.{is_boxed, is_delimited_bytes, is_explicit, is_nillable, is_unframed, is_prefixed, is_standard, is_text, is_text_boolean, is_text_number, is_zoned, is_element, is_simple, is_string, is_sequence, is_choice, is_hidden, is_plain_group, is_represented, is_decimal, value_bits, is_binary, is_binary_boolean, is_binary_number, is_explicit_binary, is_packed, is_word, told_at}
+use Rattle.dfdl_checks.specs.Subjects.{is_any_element, is_bare, is_boxed, is_delimited_bytes, is_explicit, is_nillable, is_unframed, is_prefixed, is_standard, is_text, is_text_boolean, is_text_number, is_zoned, is_element, is_simple, is_string, is_sequence, is_choice, is_hidden, is_plain_group, is_represented, is_decimal, value_bits, is_binary, is_binary_boolean, is_binary_number, is_explicit_binary, is_packed, is_word, told_at}
 use Rattle.dfdl_checks.specs.Judged.{Judged}
 use Rattle.dfdl_checks.specs.Tests.{is_tested}
 use Rattle.dfdl_checks.specs.declared.applicability.Bearers.{Bearers}
@@ -20,9 +20,9 @@ is_ordered_binary subject = is_binary subject && (nat_lt 8 (value_bits subject.k
 
 -- a component is one of these
 abbrev pub is_bearer : Bearers → Judged → Bool
-is_bearer EveryComponent subject = not (is_hidden subject.kind)
+is_bearer EveryComponent subject = not (is_bare subject.kind)
 is_bearer FramedComponents subject = not (is_unframed subject.kind)
-is_bearer Elements subject = is_element subject.kind
+is_bearer Elements subject = is_any_element subject.kind
 is_bearer OtherElements subject = is_element subject.kind && not (is_boxed subject) && not (is_binary subject)
 is_bearer SimpleElements subject = is_element subject.kind && is_simple subject.kind
 is_bearer NillableElements subject = is_nillable subject

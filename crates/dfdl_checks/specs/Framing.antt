@@ -8,12 +8,12 @@ use Rattle.dfdl_scope.specs.Scoping.{Told, Value, Absent, Twice}
 use Rattle.dfdl_terms.specs.Framing.{no_fill}
 use Rattle.dfdl_terms.specs.declared.framing.Framing.{Framing}
 use Rattle.dfdl_checks.specs.Judged.{Judged}
-use Rattle.dfdl_checks.specs.Subjects.{is_binary, is_hidden, is_told, is_word, told_at}
+use Rattle.dfdl_checks.specs.Subjects.{is_bare, is_binary, is_told, is_word, told_at}
 use Rattle.dfdl_checks.specs.Values.{number_within}
 use Rattle.dfdl_checks.specs.declared.purpose.Purpose.{Purpose}
 use Rattle.dfdl_checks.specs.declared.purpose.Purpose.TheVariants.{Parsing, Unparsing}
 use Rattle.dfdl_checks.specs.declared.subject.Kind.{Kind}
-use Rattle.dfdl_checks.specs.declared.subject.Kind.TheVariants.{ComplexElement, SimpleElement, UncarriedElement, Sequence, HiddenSequence, Choice, PrefixNumber}
+use Rattle.dfdl_checks.specs.declared.subject.Kind.TheVariants.{ComplexElement, SimpleElement, UncarriedElement, CalculatedElement, Sequence, HiddenSequence, Choice, PrefixNumber}
 
 -- how many bits a unit of fill has, by what is told of the units: bytes, else bits
 abbrev pub fill_unit : Told → ℕ
@@ -57,6 +57,7 @@ abbrev pub implicit_alignment : Judged → Kind → ℕ
 implicit_alignment subject (SimpleElement simple) = simple_alignment subject simple
 implicit_alignment subject UncarriedElement = 8
 implicit_alignment subject ComplexElement = 1
+implicit_alignment subject (CalculatedElement simple) = 1
 implicit_alignment subject Sequence = 1
 implicit_alignment subject HiddenSequence = 1
 implicit_alignment subject Choice = 1
@@ -75,17 +76,19 @@ alignment_of subject =
 -- the fill that is told of the component
 abbrev pub fill_of : Judged → Framing
 fill_of subject = record {
-  tests = no_fill.tests;
+  before = no_fill.before;
   leading_skip = skip_of subject (codes "leadingSkip");
   alignment = alignment_of subject;
   initiator = None;
   terminator = None;
   trailing_skip = skip_of subject (codes "trailingSkip");
+  behind = no_fill.behind;
 }
 
--- the component's fill, which is built for parsing; a sequence that stands for a hidden group has none
+-- the component's fill, which is built for parsing; a sequence that stands for a hidden group has none, and an element whose value is
+-- calculated neither
 abbrev pub fill_for : Purpose → Judged → Framing
-fill_for Parsing subject = if is_hidden subject.kind then no_fill else fill_of subject
+fill_for Parsing subject = if is_bare subject.kind then no_fill else fill_of subject
 fill_for Unparsing subject = no_fill
 
 -- the fill around the component's content

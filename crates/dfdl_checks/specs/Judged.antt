@@ -11,23 +11,26 @@ use Rattle.dfdl_checks.specs.declared.subject.Kind.{Kind}
 use Rattle.dfdl_checks.specs.declared.subject.Standing.{Standing}
 
 -- what a component states besides its properties and tests: of an element, minOccurs and maxOccurs, whether it may be nil, and
--- the text of its default value; whether a setVariable or a newVariableInstance stands at
--- it; of a sequence or a choice, whether nothing is in it; and of an element of a simple type, the greatest length of its values
+-- the text of its default value; whether a newVariableInstance stands at it; of an element, whether it is declared where it stands; of a sequence or a choice, whether nothing is in it; and of an element of a simple type, the greatest length of its values
 pub record FactsJudged : Type 0 where
   pub bounds : Bounds
   pub is_nillable : Bool
   pub default : Option (List ℕ)
-  pub sets_variables : Bool
+  pub opens_instances : Bool
+  pub is_local : Bool
   pub is_empty : Bool
   pub max_length : Option ℕ
 
--- an assert or a discriminator as it is written: whether it is a discriminator, its testKind, its failureType, the text of its
--- pattern, and its message, as far as they are given
+-- an assert or a discriminator as it is written: which element of which document it is, whether it is a discriminator, its testKind,
+-- its failureType, the text of its pattern, the text of its expression, and its message, as far as they are given
 pub record TestJudged : Type 0 where
+  pub document : ℕ
+  pub element : ℕ
   pub discriminates : Bool
   pub kind : Option (List ℕ)
   pub failure : Option (List ℕ)
   pub pattern : Option (List ℕ)
+  pub test : Option (List ℕ)
   pub message : Option (List ℕ)
 
 -- the type of a length prefix: which simple type it comes to, if that is carried, its start tag, the chain that its properties
@@ -41,7 +44,7 @@ pub record PrefixJudged : Type 0 where
 -- a component: what its rows are made for, its kind, its start tag, the chain that its properties are asked of, what else
 -- it states, the order of bits of the schema's root, the type that its property prefixLengthType names, if it names one, what its
 -- property escapeSchemeRef names, whether the pattern of its length or that of one of its tests can't be built, its tests in
--- their order, where it stands, and whether its property hiddenGroupRef names nothing
+-- their order, whether a setVariable stands at it, where it stands, and whether its property hiddenGroupRef names nothing
 pub record Judged : Type 0 where
   pub purpose : Purpose
   pub kind : Kind
@@ -53,5 +56,6 @@ pub record Judged : Type 0 where
   pub scheme : NamedScheme
   pub pattern_is_refused : Bool
   pub tests : List TestJudged
+  pub sets_variables : Bool
   pub standing : Standing
   pub group_is_unknown : Bool

@@ -13,7 +13,8 @@ facts_judged_of facts = record {
   bounds = facts.bounds;
   is_nillable = facts.is_nillable;
   default = option_copied facts.default;
-  sets_variables = facts.sets_variables;
+  opens_instances = facts.opens_instances;
+  is_local = facts.is_local;
   is_empty = facts.is_empty;
   max_length = facts.max_length;
 }
@@ -21,10 +22,13 @@ facts_judged_of facts = record {
 -- a test with texts that are lent
 abbrev pub test_judged_of : StatedTest → TestJudged
 test_judged_of test = record {
+  document = test.document;
+  element = test.element;
   discriminates = test.discriminates;
   kind = option_copied test.kind;
   failure = option_copied test.failure;
   pattern = option_copied test.pattern;
+  test = option_copied test.test;
   message = option_copied test.message;
 }
 
@@ -47,6 +51,7 @@ judged_of subject = record {
   scheme = subject.scheme;
   pattern_is_refused = subject.pattern_is_refused;
   tests = map test_judged_of subject.tests.now;
+  sets_variables = subject.sets_variables;
   standing = subject.standing;
   group_is_unknown = subject.group_is_unknown;
 }

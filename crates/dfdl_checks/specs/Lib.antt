@@ -20,6 +20,7 @@ pub mod NewLines
 pub mod NumberTexts
 pub mod BooleanTexts
 pub mod Applying
+pub mod Calculations
 pub mod Table
 pub mod TableShown
 pub mod Flaws

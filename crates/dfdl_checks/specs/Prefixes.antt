@@ -38,7 +38,15 @@ is_integer_type (Some simple) = is_integer (form_of simple)
 
 -- what the type of a prefix states: nothing
 abbrev pub no_facts : FactsJudged
-no_facts = record { bounds = record { least = 1; most = Some 1 }; is_nillable = false; default = None; sets_variables = false; is_empty = false; max_length = None }
+no_facts = record {
+  bounds = record { least = 1; most = Some 1 };
+  is_nillable = false;
+  default = None;
+  opens_instances = false;
+  is_local = false;
+  is_empty = false;
+  max_length = None;
+}
 
 -- the type of the component's prefix, as the rules see it
 abbrev pub judged_prefix : Judged → PrefixJudged → Simple → Judged
@@ -53,6 +61,7 @@ judged_prefix subject prefix simple = record {
   scheme = prefix.scheme;
   pattern_is_refused = false;
   tests = [];
+  sets_variables = false;
   standing = nowhere;
   group_is_unknown = false;
 }

@@ -11,6 +11,7 @@ use Rattle.dfdl_scope.specs.Scoping.{repeated_at}
 use Rattle.dfdl_scope.specs.Table.{names_of, property_table}
 use Rattle.dfdl_checks.specs.Booleans.{falsity_told, truth_told}
 use Rattle.dfdl_checks.specs.BuiltTypes.{is_built_type}
+use Rattle.dfdl_checks.specs.Calculations.{is_calculation_not_allowed}
 use Rattle.dfdl_checks.specs.Boxes.{is_box_too_long, is_implicit_box}
 use Rattle.dfdl_checks.specs.Defaults.{is_default_not_allowed}
 use Rattle.dfdl_checks.specs.Delimiters.{is_delimiter_empty, is_delimiter_malformed, is_delimiter_not_encoded}
@@ -29,9 +30,9 @@ use Rattle.dfdl_forms.specs.declared.number_pattern.NumberPattern.{NumberPattern
 use Rattle.dfdl_checks.specs.Packed.{codes_told, nibbles_within, rep_of}
 use Rattle.dfdl_checks.specs.Occurrences.{are_bounds_unfit, is_once, is_required, is_tried}
 use Rattle.dfdl_checks.specs.Prefixes.{is_name_told, is_no_prefix_type, is_not_whole, prefix_subject}
-use Rattle.dfdl_checks.specs.Subjects.{is_boxed, is_delimited_bytes, is_element, is_choice, is_hidden, is_binary, is_binary_boolean, is_binary_number, is_decimal, is_explicit, is_explicit_binary, is_packed, is_prefixed, is_simple, is_standard, is_text, is_text_boolean, is_text_number, is_told, is_zoned, told_at, value_bits}
+use Rattle.dfdl_checks.specs.Subjects.{is_boxed, is_delimited_bytes, is_element, is_choice, is_bare, is_binary, is_binary_boolean, is_binary_number, is_decimal, is_explicit, is_explicit_binary, is_packed, is_prefixed, is_simple, is_standard, is_text, is_text_boolean, is_text_number, is_told, is_zoned, told_at, value_bits}
 use Rattle.dfdl_checks.specs.Standings.{is_initiator_missing, is_unbounded_not_allowed}
-use Rattle.dfdl_checks.specs.Tests.{are_tests_other, are_tests_together, has_later_statements, is_test_pattern_missing}
+use Rattle.dfdl_checks.specs.Tests.{are_tests_other, are_tests_together, has_later_statements, is_test_text_missing}
 use Rattle.dfdl_checks.specs.Flaws.{has_flaw}
 use Rattle.dfdl_checks.specs.declared.flaw.Flaw.TheVariants as flaws
 use Rattle.dfdl_checks.specs.declared.purpose.Purpose.{Purpose}
@@ -73,9 +74,9 @@ abbrev pub property_twice : Judged → Option Place
 property_twice subject = repeated_at subject.chain (names_of property_table)
 
 -- 7: a property that applies to the component is given nowhere, and no value stands in its place; or one of its tests is of a
--- pattern that isn't given
+-- pattern or an expression that isn't given
 abbrev pub is_property_missing : Judged → Bool
-is_property_missing subject = has_flaw flaws.Missing subject || is_test_pattern_missing subject
+is_property_missing subject = has_flaw flaws.Missing subject || is_test_text_missing subject
 
 -- a separator of a text number is no single character
 abbrev pub is_separator_other : Judged → Bool
@@ -234,9 +235,10 @@ abbrev pub are_orders_apart : Judged → Bool
 are_orders_apart subject =
     is_binary_number subject && is_least_first subject && not (is_told subject (codes "byteOrder") (codes "littleEndian"))
 
--- 22: an order of bits that isn't that of the schema's root; a sequence that stands for a hidden group has none
+-- 22: an order of bits that isn't that of the schema's root; a sequence that stands for a hidden group has none, and an element whose value
+-- is calculated neither
 abbrev pub is_second_bit_order : Judged → Bool
-is_second_bit_order subject = not (is_hidden subject.kind) && not (is_same_order (told_order subject) subject.root_bits_by)
+is_second_bit_order subject = not (is_bare subject.kind) && not (is_same_order (told_order subject) subject.root_bits_by)
 
 -- a text that is padded or trimmed, whose encoding lacks its pad character
 abbrev pub is_pad_not_encoded : Judged → Bool
@@ -262,7 +264,7 @@ is_character_not_encoded subject =
 
 -- 24: an implicit alignment of what is no simple element
 abbrev pub is_alignment_not_allowed : Judged → Bool
-is_alignment_not_allowed subject = not (is_simple subject.kind || is_hidden subject.kind) && is_told subject (codes "alignment") (codes "implicit")
+is_alignment_not_allowed subject = not (is_simple subject.kind || is_bare subject.kind) && is_told subject (codes "alignment") (codes "implicit")
 
 -- a text number in base ten whose pattern, where it is told, is none
 abbrev pub is_standard_pattern_malformed : Judged → Bool
@@ -356,6 +358,7 @@ rules =
     ∷ at_itself causes.OccurrenceBounds are_bounds_unfit
     ∷ at_itself causes.TestsTogether are_tests_together
     ∷ at_itself causes.NoInitiator is_initiator_missing
+    ∷ at_itself causes.CalculationNotAllowed is_calculation_not_allowed
     ∷ at_itself causes.EscapeScheme is_scheme_malformed
     ∷ []
 

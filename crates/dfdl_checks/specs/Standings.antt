@@ -4,13 +4,17 @@ use Rattle.std.specs.Prelude.{ℕ, Bool, true, false, not, ◌&&◌, ◌||◌, O
 use Rattle.dfdl_checks.specs.Delimiters.{has_delimiter}
 use Rattle.dfdl_checks.specs.Judged.{Judged}
 use Rattle.dfdl_checks.specs.Occurrences.{is_fixed, is_parsed}
-use Rattle.dfdl_checks.specs.Subjects.{is_element, is_plain_group, is_told}
+use Rattle.dfdl_checks.specs.Subjects.{is_calculated, is_element, is_plain_group, is_told}
 use Rattle.dfdl_checks.specs.declared.purpose.Purpose.{Purpose}
 use Rattle.dfdl_checks.specs.declared.purpose.Purpose.TheVariants.{Parsing, Unparsing}
 
--- 39: a component of a group with initiated content that has no initiator
+-- a component of a group with initiated content has no initiator
+abbrev pub lacks_initiator : Judged → Bool
+lacks_initiator subject = subject.standing.is_initiated && not (has_delimiter subject (codes "initiator"))
+
+-- 39: a component of a group with initiated content that has no initiator; an element whose value is calculated needs none
 abbrev pub is_initiator_missing : Judged → Bool
-is_initiator_missing subject = subject.standing.is_initiated && not (has_delimiter subject (codes "initiator"))
+is_initiator_missing subject = not (is_calculated subject.kind) && lacks_initiator subject
 
 -- there is no greatest number of occurrences
 abbrev pub is_endless : Option ℕ → Bool

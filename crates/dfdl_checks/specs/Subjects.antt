@@ -9,14 +9,15 @@ use Rattle.dfdl_forms.specs.declared.simple.Form.TheVariants.{Signed, Unsigned, 
 use Rattle.dfdl_scope.specs.Expressions.{literal}
 use Rattle.dfdl_scope.specs.Scoping.{Told, Value, Absent, Twice, told}
 use Rattle.dfdl_checks.specs.declared.subject.Kind.{Kind}
-use Rattle.dfdl_checks.specs.declared.subject.Kind.TheVariants.{ComplexElement, SimpleElement, UncarriedElement, Sequence, HiddenSequence, Choice, PrefixNumber}
+use Rattle.dfdl_checks.specs.declared.subject.Kind.TheVariants.{ComplexElement, SimpleElement, UncarriedElement, CalculatedElement, Sequence, HiddenSequence, Choice, PrefixNumber}
 use Rattle.dfdl_checks.specs.Judged.{Judged}
 
--- an element
+-- an element that has a representation
 abbrev pub is_element : Kind → Bool
 is_element ComplexElement = true
 is_element (SimpleElement simple) = true
 is_element UncarriedElement = true
+is_element (CalculatedElement simple) = false
 is_element Sequence = false
 is_element HiddenSequence = false
 is_element Choice = false
@@ -27,10 +28,27 @@ abbrev pub is_hidden : Kind → Bool
 is_hidden HiddenSequence = true
 is_hidden _ = false
 
--- the type of a prefix, or a sequence that stands for a hidden group: their framing isn't asked for
+-- an element whose value is calculated: no property of a representation has an effect
+abbrev pub is_calculated : Kind → Bool
+is_calculated (CalculatedElement simple) = true
+is_calculated _ = false
+
+-- an element
+abbrev pub is_any_element : Kind → Bool
+is_any_element kind = is_element kind || is_calculated kind
+
+-- a sequence that stands for a hidden group, or an element whose value is calculated: no property of the data that it stands for has an
+-- effect
+abbrev pub is_bare : Kind → Bool
+is_bare HiddenSequence = true
+is_bare (CalculatedElement simple) = true
+is_bare _ = false
+
+-- the type of a prefix, or one of these: their framing isn't asked for
 abbrev pub is_unframed : Kind → Bool
 is_unframed (PrefixNumber simple) = true
 is_unframed HiddenSequence = true
+is_unframed (CalculatedElement simple) = true
 is_unframed _ = false
 
 -- an element of a complex type
@@ -38,11 +56,12 @@ abbrev pub is_complex : Kind → Bool
 is_complex ComplexElement = true
 is_complex _ = false
 
--- an element of a simple type, or the type of a prefix
+-- an element of a simple type that has a representation, or the type of a prefix
 abbrev pub is_simple : Kind → Bool
 is_simple ComplexElement = false
 is_simple (SimpleElement simple) = true
 is_simple UncarriedElement = true
+is_simple (CalculatedElement simple) = false
 is_simple Sequence = false
 is_simple HiddenSequence = false
 is_simple Choice = false
@@ -62,11 +81,11 @@ is_choice _ = false
 abbrev pub is_plain_group : Kind → Bool
 is_plain_group kind = is_sequence kind || is_choice kind
 
--- a sequence or a choice
-abbrev pub is_group : Kind → Bool
-is_group kind = is_plain_group kind || is_hidden kind
+-- a sequence or a choice, or an element whose value is calculated: it has no length of its own
+abbrev pub is_without_length : Kind → Bool
+is_without_length kind = is_plain_group kind || is_bare kind
 
--- the simple type of an element, or of the type of a prefix, where it is carried
+-- the simple type of an element that has a representation, or of the type of a prefix, where it is carried
 abbrev pub simple_of : Kind → Option Simple
 simple_of (SimpleElement simple) = Some simple
 simple_of (PrefixNumber simple) = Some simple
@@ -220,17 +239,17 @@ is_nillable subject = is_element subject.kind && is_simple subject.kind && subje
 abbrev pub is_boxed : Judged → Bool
 is_boxed subject = is_text subject || is_hex_binary subject.kind || is_complex subject.kind
 
--- what is no group has a length by a pattern
+-- what may have a length has one by a pattern
 abbrev pub is_by_pattern : Judged → Bool
-is_by_pattern subject = not (is_group subject.kind) && is_told subject (codes "lengthKind") (codes "pattern")
+is_by_pattern subject = not (is_without_length subject.kind) && is_told subject (codes "lengthKind") (codes "pattern")
 
--- what is no group has a length prefix
+-- what may have a length has a length prefix
 abbrev pub is_prefixed : Judged → Bool
-is_prefixed subject = not (is_group subject.kind) && is_told subject (codes "lengthKind") (codes "prefixed")
+is_prefixed subject = not (is_without_length subject.kind) && is_told subject (codes "lengthKind") (codes "prefixed")
 
--- what is no group has a delimited length
+-- what may have a length has a delimited one
 abbrev pub has_delimited_length : Judged → Bool
-has_delimited_length subject = not (is_group subject.kind) && is_told subject (codes "lengthKind") (codes "delimited")
+has_delimited_length subject = not (is_without_length subject.kind) && is_told subject (codes "lengthKind") (codes "delimited")
 
 -- the data tell the length, by a prefix, by what a pattern matches in them, or by what delimits it
 abbrev pub is_sized_by_data : Judged → Bool

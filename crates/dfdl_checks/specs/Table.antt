@@ -129,7 +129,7 @@ applicability_table =
     ∷ applies (codes "nilValue") NillableElements EveryValue
     ∷ applies (codes "nilValueDelimiterPolicy") SimpleElements EveryValue
     ∷ applies (codes "emptyValueDelimiterPolicy") SimpleElements EveryValue
-    ∷ applies (codes "inputValueCalc") Elements NoValue
-    ∷ applies (codes "outputValueCalc") Elements NoValue
+    ∷ applies_by (codes "inputValueCalc") Elements EveryValue NoValue
+    ∷ applies_by (codes "outputValueCalc") Elements EveryValue NoValue
     ∷ applies (codes "encoding") TestedComponents EveryValue
     ∷ []

@@ -1,13 +1,14 @@
--- The asserts and discriminators of components ('DFDL Schema Component Model', on asserts and discriminators). Those by patterns are
--- built for parsing.
+-- The asserts and discriminators of components ('DFDL Schema Component Model', on asserts and discriminators), which are built for
+-- parsing.
 use Rattle.std.specs.Prelude.{ℕ, List, [], ◌∷◌, ◌++◌, Bool, true, false, not, nat_lt, length, ◌&&◌, ◌||◌, Option, Some, None, is_some, codes, if◌then◌else◌}
 use Rattle.std.specs.List.{flat_map, list_any}
 use Rattle.std.specs.Str.{bytes_eq}
 use Rattle.dfdl_forms.specs.declared.encoding.Encoding.{Encoding}
 use Rattle.dfdl_length_patterns.specs.Patterns.{anchored}
-use Rattle.dfdl_terms.specs.declared.asserting.PatternTest.{PatternTest}
+use Rattle.dfdl_terms.specs.declared.statement.PatternTest.{PatternTest}
 use Rattle.dfdl_checks.specs.Judged.{Judged, TestJudged}
 use Rattle.dfdl_checks.specs.Patterns.{length_pattern, pattern_encoding}
+use Rattle.dfdl_checks.specs.declared.expression_tests.CheckForm.{CheckForm}
 use Rattle.dfdl_checks.specs.declared.purpose.Purpose.{Purpose}
 use Rattle.dfdl_checks.specs.declared.purpose.Purpose.TheVariants.{Parsing, Unparsing}
 
@@ -33,9 +34,9 @@ is_test_other test =
 abbrev pub is_discriminator : TestJudged → Bool
 is_discriminator test = test.discriminates
 
--- a test of a pattern that gives none
-abbrev pub is_without_pattern : TestJudged → Bool
-is_without_pattern test = is_pattern_test test && not (is_some test.pattern)
+-- a test of a pattern that gives none, or one of an expression that gives none
+abbrev pub is_without_text : TestJudged → Bool
+is_without_text test = (is_pattern_test test && not (is_some test.pattern)) || (is_expression_test test && not (is_some test.test))
 
 -- the pattern that is built of a test
 abbrev pub test_pattern : TestJudged → Option (List ℕ)
@@ -45,14 +46,14 @@ test_pattern test = if is_pattern_test test then test.pattern else None
 abbrev pub is_tested : Judged → Bool
 is_tested subject = list_any is_pattern_test subject.tests
 
--- a component with a setVariable or a newVariableInstance, or with a test of an expression; for unparsing with any test
+-- a component with a newVariableInstance; for unparsing one with any statement
 abbrev pub has_later_statements : Purpose → Judged → Bool
-has_later_statements Parsing subject = subject.facts.sets_variables || list_any is_expression_test subject.tests
-has_later_statements Unparsing subject = subject.facts.sets_variables || nat_lt 0 (length subject.tests)
+has_later_statements Parsing subject = subject.facts.opens_instances
+has_later_statements Unparsing subject = subject.facts.opens_instances || (subject.sets_variables || nat_lt 0 (length subject.tests))
 
--- one of the component's tests is of a pattern and has none
-abbrev pub is_test_pattern_missing : Judged → Bool
-is_test_pattern_missing subject = list_any is_without_pattern subject.tests
+-- one of the component's tests is of a pattern or of an expression and has none
+abbrev pub is_test_text_missing : Judged → Bool
+is_test_text_missing subject = list_any is_without_text subject.tests
 
 -- one of the component's tests is of a kind that is none, or its failure is one to be recovered from
 abbrev pub are_tests_other : Judged → Bool
@@ -107,3 +108,29 @@ tests_by encoding tests = flat_map (built_of_test encoding) tests
 abbrev pub tests_of : Judged → List PatternTest
 tests_of subject =
     if subject.pattern_is_refused then [] else tests_by (pattern_encoding subject) (tests_for subject.purpose subject.tests)
+
+-- the text of the expression of a test, if it is one of an expression
+abbrev pub check_text : TestJudged → Option (List ℕ)
+check_text test = if is_expression_test test then test.test else None
+
+-- a test of an expression of this text
+abbrev pub check_with : TestJudged → List ℕ → CheckForm
+check_with test text =
+    record { document = test.document; element = test.element; discriminates = test.discriminates; text = text; message = test.message }
+
+-- the same, where there is a text
+abbrev pub check_by : TestJudged → Option (List ℕ) → List CheckForm
+check_by test None = []
+check_by test (Some text) = check_with test text ∷ []
+
+-- what is built of a test of an expression
+abbrev pub check_of : TestJudged → List CheckForm
+check_of test = check_by test (check_text test)
+
+-- what is built of tests of expressions, in their order
+abbrev pub checks_by : List TestJudged → List CheckForm
+checks_by tests = flat_map check_of tests
+
+-- the component's tests of expressions that are built
+abbrev pub checks_of : Judged → List CheckForm
+checks_of subject = checks_by (tests_for subject.purpose subject.tests)

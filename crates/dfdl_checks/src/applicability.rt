@@ -3,10 +3,11 @@
 /// The components that a property applies to.
 #[derive(Debug, Clone, Copy, PartialEq, Eq)]
 pub enum Bearers {
-    /// All components but sequences that stand for a hidden group.
+    /// All components but sequences that stand for a hidden group and elements whose value is calculated.
     EveryComponent,
-    /// All components but the types of length prefixes and sequences that stand for a hidden group, whose framing is not asked for.
+    /// The same but the types of length prefixes, whose framing is not asked for.
     FramedComponents,
+    /// Elements, with and without a representation; those below have one.
     Elements,
     /// Elements that are neither boxed elements nor binary numbers nor binary booleans.
     OtherElements,

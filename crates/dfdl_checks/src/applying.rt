@@ -7,8 +7,8 @@ use crate::applicability::Bearers;
 use crate::boxes::{is_explicit_box, is_implicit_string};
 use crate::delimiters::{is_delimited, is_separated};
 use crate::kinds::{
-    is_choice, is_decimal, is_element, is_hidden, is_plain_group, is_represented, is_sequence,
-    is_simple, is_string, is_unframed, value_bits,
+    is_any_element, is_bare, is_choice, is_decimal, is_element, is_hidden, is_plain_group,
+    is_represented, is_sequence, is_simple, is_string, is_unframed, value_bits,
 };
 use crate::nils::is_nil_by_value;
 use crate::number_texts::base_of;
@@ -29,9 +29,9 @@ pub(crate) fn is_bearer(bearers: Bearers, subject: &Subject<'_, '_, '_>) -> bool
 {
     let kind = subject.kind;
     match bearers {
-        Bearers::EveryComponent => !is_hidden(kind),
+        Bearers::EveryComponent => !is_bare(kind),
         Bearers::FramedComponents => !is_unframed(kind),
-        Bearers::Elements => is_element(kind),
+        Bearers::Elements => is_any_element(kind),
         Bearers::OtherElements => is_element(kind) && !is_boxed(subject) && !is_binary(subject),
         Bearers::SimpleElements => is_element(kind) && is_simple(kind),
         Bearers::NillableElements => is_nillable(subject),

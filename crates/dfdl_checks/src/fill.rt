@@ -6,21 +6,21 @@ ghost use Rattle.dfdl_scope.specs.Scoping.{told};
 ghost use Rattle.dfdl_scope.specs.Shown.{chain_of};
 ghost use Rattle.dfdl_scope.specs.Told.{told_by};
 
-use crate::kinds::is_hidden;
+use crate::kinds::is_bare;
 use crate::purpose::Purpose;
 use crate::representations::{is_binary, is_word};
 use crate::subject::{Kind, Subject};
 use crate::values::number_within;
 use dfdl_forms::Simple;
 use dfdl_scope::{Asked, Component, literal, property};
-use dfdl_terms::{Framing, Tests};
+use dfdl_terms::{Framing, Statements};
 
 /// The fill around the content of a component, in bits: for unparsing there is none. Takes no memory.
 pub fn framing(subject: &Subject<'_, '_, '_>) -> Framing
     ensures { result ≡ framings.framing_of (judged_of subject.now) }
 {
     match subject.purpose {
-        Purpose::Parsing if is_hidden(subject.kind) => Framing::none(),
+        Purpose::Parsing if is_bare(subject.kind) => Framing::none(),
         Purpose::Parsing => fill_of(subject),
         Purpose::Unparsing => Framing::none(),
     }
@@ -31,12 +31,13 @@ fn fill_of(subject: &Subject<'_, '_, '_>) -> Framing
     ensures { result ≡ framings.fill_of (judged_of subject.now) }
 {
     Framing {
-        tests: Tests { first: 0, count: 0 },
+        before: Statements { first: 0, count: 0 },
         leading_skip: skip_of(subject, "leadingSkip"),
         alignment: alignment_of(subject),
         initiator: None,
         terminator: None,
         trailing_skip: skip_of(subject, "trailingSkip"),
+        behind: Statements { first: 0, count: 0 },
     }
 }
 
@@ -112,6 +113,7 @@ fn implicit_alignment(subject: &Subject<'_, '_, '_>, kind: Kind) -> u32
         Kind::SimpleElement(simple) => simple_alignment(subject, simple),
         Kind::UncarriedElement => 8,
         Kind::ComplexElement
+        | Kind::CalculatedElement(_)
         | Kind::Sequence
         | Kind::HiddenSequence
         | Kind::Choice

@@ -7,13 +7,44 @@ ghost use Rattle.dfdl_checks.specs.Subjects as subjects;
 use crate::subject::Kind;
 use dfdl_forms::{Form, Simple};
 
-/// Whether it is an element.
+/// Whether it is an element that has a representation.
 pub(crate) fn is_element(kind: Kind) -> bool
     ensures { result ≡ subjects.is_element kind }
 {
     match kind {
         Kind::ComplexElement | Kind::SimpleElement(_) | Kind::UncarriedElement => true,
-        Kind::Sequence | Kind::HiddenSequence | Kind::Choice | Kind::PrefixNumber(_) => false,
+        Kind::CalculatedElement(_)
+        | Kind::Sequence
+        | Kind::HiddenSequence
+        | Kind::Choice
+        | Kind::PrefixNumber(_) => false,
+    }
+}
+
+/// Whether it is an element whose value is calculated.
+pub(crate) fn is_calculated(kind: Kind) -> bool
+    ensures { result ≡ subjects.is_calculated kind }
+{
+    match kind {
+        Kind::CalculatedElement(_) => true,
+        _ => false,
+    }
+}
+
+/// Whether it is an element.
+pub(crate) fn is_any_element(kind: Kind) -> bool
+    ensures { result ≡ subjects.is_any_element kind }
+{
+    is_element(kind) || is_calculated(kind)
+}
+
+/// Whether it is a sequence that stands for a hidden group, or an element whose value is calculated.
+pub(crate) fn is_bare(kind: Kind) -> bool
+    ensures { result ≡ subjects.is_bare kind }
+{
+    match kind {
+        Kind::HiddenSequence | Kind::CalculatedElement(_) => true,
+        _ => false,
     }
 }
 
@@ -27,23 +58,27 @@ pub(crate) fn is_hidden(kind: Kind) -> bool
     }
 }
 
-/// Whether it is the type of a length prefix or a sequence that stands for a hidden group.
+/// Whether it is the type of a length prefix, a sequence that stands for a hidden group, or an element whose value is calculated.
 pub(crate) fn is_unframed(kind: Kind) -> bool
     ensures { result ≡ subjects.is_unframed kind }
 {
     match kind {
-        Kind::PrefixNumber(_) | Kind::HiddenSequence => true,
+        Kind::PrefixNumber(_) | Kind::HiddenSequence | Kind::CalculatedElement(_) => true,
         _ => false,
     }
 }
 
-/// Whether it is an element of a simple type, or the type of a prefix.
+/// Whether it is an element of a simple type that has a representation, or the type of a prefix.
 pub(crate) fn is_simple(kind: Kind) -> bool
     ensures { result ≡ subjects.is_simple kind }
 {
     match kind {
         Kind::SimpleElement(_) | Kind::UncarriedElement | Kind::PrefixNumber(_) => true,
-        Kind::ComplexElement | Kind::Sequence | Kind::HiddenSequence | Kind::Choice => false,
+        Kind::ComplexElement
+        | Kind::CalculatedElement(_)
+        | Kind::Sequence
+        | Kind::HiddenSequence
+        | Kind::Choice => false,
     }
 }
 
@@ -84,11 +119,11 @@ pub(crate) fn is_plain_group(kind: Kind) -> bool
     is_sequence(kind) || is_choice(kind)
 }
 
-/// Whether it is a sequence or a choice.
-pub(crate) fn is_group(kind: Kind) -> bool
-    ensures { result ≡ subjects.is_group kind }
+/// Whether it is a sequence or a choice, or an element whose value is calculated.
+pub(crate) fn is_without_length(kind: Kind) -> bool
+    ensures { result ≡ subjects.is_without_length kind }
 {
-    is_plain_group(kind) || is_hidden(kind)
+    is_plain_group(kind) || is_bare(kind)
 }
 
 /// Whether values of a type are texts.

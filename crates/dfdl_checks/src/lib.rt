@@ -11,11 +11,11 @@
 //! pattern tells its length, by `specs/Patterns.antt`. `framing` says which fill stands around a component, by
 //! `specs/Framing.antt`, `delimiters_at` which initiator, terminator and separator it has, by `specs/Delimiters.antt`, and `size_of_box` how long
 //! a complex element's box is, by `specs/Boxes.antt`. `occurrences` says how often an element occurs, by `specs/Occurrences.antt`.
-//! The patterns of its tests are told by `specs/Tests.antt`, and what is asked of it where it stands by `specs/Standings.antt`.
+//! The patterns of its tests and `checks`, its tests of expressions, are told by `specs/Tests.antt`, and what is asked of it where it stands by `specs/Standings.antt`.
 //! `other_representations` says which representations of a simple element are tried before its normal one, by
 //! `specs/Representations.antt`, which stands on `specs/Nils.antt`, `specs/NilValues.antt` and `specs/Defaults.antt`. The chapters are
 //! 'Property Scoping and DFDL Schema Checking', 'DFDL Data Syntax Grammar', 'Framing', 'Lengths', 'Simple Types', 'Sequence Groups' and
-//! 'Arrays and Optional Elements'.
+//! 'Arrays and Optional Elements'. Which values are calculated is told by `specs/Calculations.antt` ('Calculated Values').
 #![tactic(auto)]
 
 mod applicability;
@@ -23,9 +23,11 @@ mod applying;
 mod boolean_texts;
 mod booleans;
 mod boxes;
+mod calculations;
 mod defaults;
 mod delimiters;
 mod encodings;
+mod expression_tests;
 mod fill;
 mod fill_bytes;
 mod flaw;
@@ -59,7 +61,9 @@ mod values;
 mod zoned_texts;
 
 pub use boxes::size_of_box;
+pub use calculations::{calculation, kind_for};
 pub use delimiters::{Delimiting, Markup, Separating, delimiters_at, is_delimiter};
+pub use expression_tests::{CheckForm, checks, message_of};
 pub use fill::framing;
 pub use number::primitive;
 pub use occurring::{Bounds, is_count_parsed, occurrences};
@@ -71,5 +75,5 @@ pub use representations::is_word;
 pub use rules::breach;
 pub use standings::initiates;
 pub use subject::{Breach, Facts, Kind, PrefixType, Standing, StatedTest, Subject};
-pub use tests::{is_pattern_test, test_pattern};
+pub use tests::{is_pattern_test, test_pattern, tests_for};
 pub use tried::{OtherRepresentations, other_representations};

@@ -40,7 +40,8 @@ const NO_FACTS: Facts<'static> = Facts {
     },
     is_nillable: false,
     default: None,
-    sets_variables: false,
+    opens_instances: false,
+    is_local: false,
     is_empty: false,
     max_length: None,
 };
@@ -133,6 +134,7 @@ fn judged_integer<'s, 'e, 'c>(
             scheme: prefix.scheme,
             pattern_is_refused: false,
             tests: &[],
+            sets_variables: false,
             standing: NOWHERE,
             group_is_unknown: false,
         }),

@@ -6,8 +6,8 @@ ghost use Rattle.dfdl_scope.specs.Scoping.{told};
 ghost use Rattle.dfdl_scope.specs.Shown.{chain_of};
 
 use crate::kinds::{
-    is_boolean, is_complex, is_element, is_group, is_hex_binary, is_simple, is_string, number_bits,
-    value_bits,
+    is_boolean, is_complex, is_element, is_hex_binary, is_simple, is_string, is_without_length,
+    number_bits, value_bits,
 };
 use crate::subject::Subject;
 use dfdl_scope::{Asked, Component, literal, property};
@@ -118,21 +118,21 @@ pub(crate) fn is_boxed(subject: &Subject<'_, '_, '_>) -> bool
 pub(crate) fn is_by_pattern(subject: &Subject<'_, '_, '_>) -> bool
     ensures { result ≡ subjects.is_by_pattern (judged_of subject.now) }
 {
-    !is_group(subject.kind) && is_word(subject.chain, "lengthKind", "pattern")
+    !is_without_length(subject.kind) && is_word(subject.chain, "lengthKind", "pattern")
 }
 
 /// Whether it has a length prefix.
 pub(crate) fn is_prefixed(subject: &Subject<'_, '_, '_>) -> bool
     ensures { result ≡ subjects.is_prefixed (judged_of subject.now) }
 {
-    !is_group(subject.kind) && is_word(subject.chain, "lengthKind", "prefixed")
+    !is_without_length(subject.kind) && is_word(subject.chain, "lengthKind", "prefixed")
 }
 
 /// Whether what is no group has a delimited length.
 pub(crate) fn has_delimited_length(subject: &Subject<'_, '_, '_>) -> bool
     ensures { result ≡ subjects.has_delimited_length (judged_of subject.now) }
 {
-    !is_group(subject.kind) && is_word(subject.chain, "lengthKind", "delimited")
+    !is_without_length(subject.kind) && is_word(subject.chain, "lengthKind", "delimited")
 }
 
 /// Whether the data tell the length, by a prefix, by what a pattern matches in them, or by what delimits it.

@@ -5,12 +5,13 @@ ghost use Rattle.dfdl_checks.specs.JudgedShown.{judged_of};
 ghost use Rattle.dfdl_checks.specs.Rules as spec;
 
 use crate::booleans::{falsity_told, truth_told};
+use crate::calculations::is_calculation_not_allowed;
 use crate::defaults::is_default_not_allowed;
 use crate::delimiters::is_delimiter_empty;
 use crate::fill_bytes::is_fill_other;
 use crate::flaw::Flaw;
 use crate::flaws::has_flaw;
-use crate::kinds::{is_choice, is_element, is_hidden, is_simple};
+use crate::kinds::{is_bare, is_choice, is_element, is_simple};
 use crate::length_rules::{
     is_length_in_characters, is_length_kind_not_allowed, is_length_out_of_range,
     is_max_length_missing, is_prefix_not_whole, is_prefix_type_missing, is_prefix_type_not_allowed,
@@ -26,7 +27,7 @@ use crate::representations::{is_binary_boolean, is_binary_number, is_packed, is_
 use crate::standings::{is_initiator_missing, is_unbounded_not_allowed};
 use crate::subject::{Breach, Kind, Subject};
 use crate::tests::{
-    are_tests_other, are_tests_together, has_later_statements, is_test_pattern_missing,
+    are_tests_other, are_tests_together, has_later_statements, is_test_text_missing,
 };
 use crate::text_rules::{
     are_separators_unfit, are_truth_texts_other, is_base_unfit, is_character_not_encoded,
@@ -72,7 +73,7 @@ fn own_breach(alloc: Global, subject: &Subject<'_, '_, '_>) -> Result<Option<Bre
             place,
         }));
     }
-    if has_flaw(Flaw::Missing, subject) || is_test_pattern_missing(subject) {
+    if has_flaw(Flaw::Missing, subject) || is_test_text_missing(subject) {
         return told_here(SchemaCause::PropertyMissing, subject);
     }
     if is_value_not_carried(alloc, subject)? {
@@ -180,7 +181,7 @@ fn representation_breach(
     statement_breach(subject)
 }
 
-/// The first rule on tests, on initiated contents and on escape schemes that a component breaks.
+/// The first rule on tests, on initiated contents, on calculated values and on escape schemes that a component breaks.
 #[tactic(auto, unfolding(crate::specs::Rules::rules))]
 fn statement_breach(subject: &Subject<'_, '_, '_>) -> Result<Option<Breach>, AllocError>
     ensures { IfOk result (λ breach. breach ≡ spec.first_breach (drop 27 spec.rules) (judged_of subject.now)) }
@@ -190,6 +191,9 @@ fn statement_breach(subject: &Subject<'_, '_, '_>) -> Result<Option<Breach>, All
     }
     if is_initiator_missing(subject) {
         return told_here(SchemaCause::NoInitiator, subject);
+    }
+    if is_calculation_not_allowed(subject) {
+        return told_here(SchemaCause::CalculationNotAllowed, subject);
     }
     if is_scheme_malformed(subject) {
         return told_here(SchemaCause::EscapeScheme, subject);
@@ -309,7 +313,7 @@ fn are_orders_apart(subject: &Subject<'_, '_, '_>) -> bool
 fn is_second_bit_order(subject: &Subject<'_, '_, '_>) -> bool
     ensures { result ≡ spec.is_second_bit_order (judged_of subject.now) }
 {
-    !is_hidden(subject.kind) && !is_same_order(bit_order(subject.chain), subject.root_bits_by)
+    !is_bare(subject.kind) && !is_same_order(bit_order(subject.chain), subject.root_bits_by)
 }
 
 /// Whether the alignment of what is no simple element is implicit.
@@ -317,7 +321,7 @@ fn is_alignment_not_allowed(subject: &Subject<'_, '_, '_>) -> bool
     ensures { result ≡ spec.is_alignment_not_allowed (judged_of subject.now) }
 {
     let kind = subject.kind;
-    !(is_simple(kind) || is_hidden(kind)) && is_word(subject.chain, "alignment", "implicit")
+    !(is_simple(kind) || is_bare(kind)) && is_word(subject.chain, "alignment", "implicit")
 }
 
 /// Whether it is a packed number whose sign codes aren't four that are allowed.

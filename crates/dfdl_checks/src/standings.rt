@@ -4,7 +4,7 @@ ghost use Rattle.dfdl_checks.specs.JudgedShown.{judged_of};
 ghost use Rattle.dfdl_checks.specs.Standings as spec;
 
 use crate::delimiters::has_delimiter;
-use crate::kinds::{is_element, is_plain_group};
+use crate::kinds::{is_calculated, is_element, is_plain_group};
 use crate::occurring::{is_fixed, is_parsed};
 use crate::purpose::Purpose;
 use crate::representations::is_word;
@@ -23,9 +23,16 @@ pub fn initiates(subject: &Subject<'_, '_, '_>) -> bool
     }
 }
 
-/// Whether it stands in a group with initiated content, and has no initiator.
+/// Whether it stands in a group with initiated content, and has no initiator; an element whose value is calculated needs none.
 pub(crate) fn is_initiator_missing(subject: &Subject<'_, '_, '_>) -> bool
     ensures { result ≡ spec.is_initiator_missing (judged_of subject.now) }
+{
+    !is_calculated(subject.kind) && lacks_initiator(subject)
+}
+
+/// Whether it stands in a group with initiated content, and has no initiator.
+fn lacks_initiator(subject: &Subject<'_, '_, '_>) -> bool
+    ensures { result ≡ spec.lacks_initiator (judged_of subject.now) }
 {
     subject.standing.is_initiated && !has_delimiter(subject, "initiator")
 }

@@ -15,6 +15,9 @@ pub enum Kind {
     SimpleElement(Simple),
     /// An element of a simple type that is not carried.
     UncarriedElement,
+    /// An element of a simple type that is carried, whose value is calculated: it has no representation, and no property of one has an
+    /// effect.
+    CalculatedElement(Simple),
     Sequence,
     /// A sequence that stands for a hidden group: no other property of it, and no statement, has an effect.
     HiddenSequence,
@@ -32,8 +35,10 @@ pub struct Facts<'c> {
     pub is_nillable: bool,
     /// Of an element: the text of its default value, if it has one.
     pub default: Option<&'c str>,
-    /// A setVariable or a newVariableInstance stands at it.
-    pub sets_variables: bool,
+    /// A newVariableInstance stands at it.
+    pub opens_instances: bool,
+    /// Of an element: it is declared where it stands, and neither global nor a reference.
+    pub is_local: bool,
     /// Of a sequence or a choice: nothing is in it.
     pub is_empty: bool,
     /// Of an element of a simple type: the greatest length of its values, where the type has one; a number past 64 bits is the
@@ -44,6 +49,10 @@ pub struct Facts<'c> {
 /// An assert or a discriminator as it is written ('DFDL Schema Component Model', on asserts and discriminators).
 #[derive(Debug, Clone, Copy)]
 pub struct StatedTest<'c> {
+    /// The number of the document that it stands in.
+    pub document: u32,
+    /// Its element there.
+    pub element: u32,
     /// It is a discriminator.
     pub discriminates: bool,
     /// Its testKind.
@@ -52,6 +61,8 @@ pub struct StatedTest<'c> {
     pub failure: Option<&'c str>,
     /// The text of its pattern.
     pub pattern: Option<&'c str>,
+    /// The text of its expression.
+    pub test: Option<&'c str>,
     pub message: Option<&'c str>,
 }
 
@@ -98,6 +109,8 @@ pub struct Subject<'s, 'e, 'c> {
     pub pattern_is_refused: bool,
     /// Its asserts and discriminators, in their order.
     pub tests: &'s [StatedTest<'c>],
+    /// A setVariable stands at it.
+    pub sets_variables: bool,
     /// Where it stands.
     pub standing: Standing,
     /// Its property hiddenGroupRef names nothing.

@@ -443,13 +443,13 @@ static APPLICABILITIES: [Applicability; 74] = [
     Applicability {
         name: "inputValueCalc",
         bearers: Bearers::Elements,
-        parsing: Built::NoValue,
+        parsing: Built::EveryValue,
         unparsing: Built::NoValue,
     },
     Applicability {
         name: "outputValueCalc",
         bearers: Bearers::Elements,
-        parsing: Built::NoValue,
+        parsing: Built::EveryValue,
         unparsing: Built::NoValue,
     },
     Applicability {

@@ -25,6 +25,16 @@ pub fn test_pattern<'c>(test: &StatedTest<'c>) -> Option<&'c str>
     }
 }
 
+/// The tests that are built for a purpose.
+pub fn tests_for<'p, 'c>(purpose: Purpose, tests: &'p [StatedTest<'c>]) -> &'p [StatedTest<'c>]
+    ensures { map test_judged_of result.now ≡ spec.tests_for purpose (map test_judged_of tests.now) }
+{
+    match purpose {
+        Purpose::Parsing => tests,
+        Purpose::Unparsing => &[],
+    }
+}
+
 /// Whether a word that may be lacking is this one.
 fn is_this(text: Option<&str>, word: &str) -> bool
     ensures { result ≡ spec.is_this word.now (option_copied text.entry) }
@@ -36,7 +46,7 @@ fn is_this(text: Option<&str>, word: &str) -> bool
 }
 
 /// Whether it is a test of an expression.
-fn is_expression_test(test: &StatedTest<'_>) -> bool
+pub(crate) fn is_expression_test(test: &StatedTest<'_>) -> bool
     ensures { result ≡ spec.is_expression_test (test_judged_of test.now) }
 {
     test.kind.is_none() || is_this(test.kind, "expression")
@@ -50,11 +60,12 @@ fn is_test_other(test: &StatedTest<'_>) -> bool
         || (test.failure.is_some() && !is_this(test.failure, "processingError"))
 }
 
-/// Whether it is a test of a pattern that gives none.
-fn is_without_pattern(test: &StatedTest<'_>) -> bool
-    ensures { result ≡ spec.is_without_pattern (test_judged_of test.now) }
+/// Whether it is a test of a pattern that gives none, or one of an expression that gives none.
+fn is_without_text(test: &StatedTest<'_>) -> bool
+    ensures { result ≡ spec.is_without_text (test_judged_of test.now) }
 {
-    is_pattern_test(test) && test.pattern.is_none()
+    (is_pattern_test(test) && test.pattern.is_none())
+        || (is_expression_test(test) && test.test.is_none())
 }
 
 /// Whether one of some tests is of a pattern.
@@ -69,24 +80,12 @@ fn some_by_pattern(tests: &[StatedTest<'_>]) -> bool
     false
 }
 
-/// Whether one of some tests is of an expression.
-fn some_by_expression(tests: &[StatedTest<'_>]) -> bool
-    ensures { result ≡ list_any spec.is_expression_test (map test_judged_of tests.now) }
+/// Whether one of some tests is of a pattern or of an expression and has none.
+fn some_without_text(tests: &[StatedTest<'_>]) -> bool
+    ensures { result ≡ list_any spec.is_without_text (map test_judged_of tests.now) }
 {
     for test in tests {
-        if is_expression_test(test) {
-            return true;
-        }
-    }
-    false
-}
-
-/// Whether one of some tests is of a pattern and has none.
-fn some_without_pattern(tests: &[StatedTest<'_>]) -> bool
-    ensures { result ≡ list_any spec.is_without_pattern (map test_judged_of tests.now) }
-{
-    for test in tests {
-        if is_without_pattern(test) {
+        if is_without_text(test) {
             return true;
         }
     }
@@ -129,8 +128,12 @@ pub(crate) fn has_later_statements(subject: &Subject<'_, '_, '_>) -> bool
     ensures { result ≡ spec.has_later_statements subject.now.purpose (judged_of subject.now) }
 {
     match subject.purpose {
-        Purpose::Parsing => subject.facts.sets_variables || some_by_expression(subject.tests),
-        Purpose::Unparsing => subject.facts.sets_variables || has_more_than(subject.tests, 0),
+        Purpose::Parsing => subject.facts.opens_instances,
+        Purpose::Unparsing => {
+            subject.facts.opens_instances
+                || subject.sets_variables
+                || has_more_than(subject.tests, 0)
+        }
     }
 }
 
@@ -141,11 +144,11 @@ fn has_more_than(tests: &[StatedTest<'_>], count: usize) -> bool
     tests.len() > count
 }
 
-/// Whether one of a component's tests is of a pattern and has none.
-pub(crate) fn is_test_pattern_missing(subject: &Subject<'_, '_, '_>) -> bool
-    ensures { result ≡ spec.is_test_pattern_missing (judged_of subject.now) }
+/// Whether one of a component's tests is of a pattern or of an expression and has none.
+pub(crate) fn is_test_text_missing(subject: &Subject<'_, '_, '_>) -> bool
+    ensures { result ≡ spec.is_test_text_missing (judged_of subject.now) }
 {
-    some_without_pattern(subject.tests)
+    some_without_text(subject.tests)
 }
 
 /// Whether one of a component's tests has a kind that is none, or a failure that is to be recovered from.

@@ -1,5 +1,5 @@
 -- What documents come to by the builds of their patterns.
-use Rattle.std.proofs.Common.{◌≡◌, ℕ, List, Option, Some, None, Result, Ok, Err, IfOk, IfErr, refl, ap, sym, ◌∙◌}
+use Rattle.std.proofs.Common.{◌≡◌, ℕ, List, Option, Some, None, Result, Ok, Err, IfOk, IfErr, refl, subst}
 use Rattle.dfdl_report.specs.declared.cause.SchemaCause.TheVariants.{NameNotFound}
 use Rattle.dfdl_documents.specs.Documents.{SchemaDocument}
 use Rattle.dfdl_components.specs.declared.site.Site.{Site}
@@ -12,36 +12,37 @@ use Rattle.dfdl_breaches.proofs.Building.{in_part}
 use Rattle.dfdl_compile.specs.Builds.{ComesTo, ComesToFault}
 use Rattle.dfdl_compile.specs.Compiled as ends
 use Rattle.dfdl_compile.specs.Compiled.{CompileEnd, by_root, compiled, first_place}
-use Rattle.dfdl_compile.specs.Faults.{IsFaultOf}
+use Rattle.dfdl_compile.specs.Faults.{IsEndFault}
+use Rattle.dfdl_compile.specs.Settling.{Ends, EndsWith}
 use Rattle.dfdl_compile.specs.declared.fault.CompileFault.{CompileFault}
 use Rattle.dfdl_compile.specs.declared.fault.CompileFault.TheVariants as fault
 
 module _ (purpose : Purpose) (documents : List SchemaDocument) (depth rows : ℕ) (before after : PatternsSeen) (judgements : List Judgement)
     (judged : AreJudged purpose documents before after judgements) where
   comes : (root : Option Site) (end : Result Table CompileEnd) → root ≡ root_of documents
-      → by_root purpose judged.refused documents depth rows root ≡ end → ComesTo purpose documents depth rows before after end
+      → Ends documents (by_root purpose judged.refused documents depth rows root) end → ComesTo purpose documents depth rows before after end
   unfolding compiled
-  comes root end at is = record {
-    refused = judged.refused;
+  comes root end at (maps, is) = record {
+    free = record { refused = judged.refused; maps = maps };
     built = judged.built;
-    is = ap (by_root purpose judged.refused documents depth rows) (sym at) ∙ is;
+    is = subst (λ (o : Option Site). EndsWith maps documents (by_root purpose judged.refused documents depth rows o) end) at is;
   }
 
   comes_fault : (root : Option Site) (e : CompileFault) → root ≡ root_of documents
-      → IsFaultOf (by_root purpose judged.refused documents depth rows root) e → ComesToFault purpose documents depth rows before after e
+      → IsEndFault documents (by_root purpose judged.refused documents depth rows root) e → ComesToFault purpose documents depth rows before after e
   comes_fault root (fault.Refused cause place) at is = comes root (Err (ends.Refused cause place)) at is
   comes_fault root (fault.Limit cause quantity) at is = comes root (Err (ends.Limit cause quantity)) at is
   comes_fault root fault.OutOfMemory at is = in_part purpose judged.refused documents before after judged.built
 
   -- the same of what is answered
   pub rows_come : (root : Site) (r : Result Table CompileFault) → Some root ≡ root_of documents
-      → IfOk r (λ t. by_root purpose judged.refused documents depth rows (Some root) ≡ Ok t)
+      → IfOk r (λ t. Ends documents (by_root purpose judged.refused documents depth rows (Some root)) (Ok t))
       → IfOk r (λ t. ComesTo purpose documents depth rows before after (Ok t))
   rows_come root (Ok t) at is = comes (Some root) (Ok t) at is
   rows_come root (Err e) at is = tt
 
   pub faults_come : (root : Site) (r : Result Table CompileFault) → Some root ≡ root_of documents
-      → IfErr r (IsFaultOf (by_root purpose judged.refused documents depth rows (Some root)))
+      → IfErr r (IsEndFault documents (by_root purpose judged.refused documents depth rows (Some root)))
       → IfErr r (ComesToFault purpose documents depth rows before after)
   faults_come root (Ok t) at is = tt
   faults_come root (Err e) at is = comes_fault (Some root) e at is
@@ -49,4 +50,4 @@ module _ (purpose : Purpose) (documents : List SchemaDocument) (depth rows : ℕ
   -- there is no root
   pub no_root : None ≡ root_of documents
       → ComesTo purpose documents depth rows before after (Err (ends.Refused NameNotFound first_place))
-  no_root at = comes None (Err (ends.Refused NameNotFound first_place)) at refl
+  no_root at = comes None (Err (ends.Refused NameNotFound first_place)) at (None, refl)

@@ -1,7 +1,6 @@
 -- The components of documents are those of one schema.
 use Rattle.std.proofs.Common.{◌≡◌, ℕ, zero, suc, ◌+◌, ◌<◌, ◌≤◌, List, [], ◌∷◌, ◌++◌, length, map, take, drop, get_or, All, Bool, false, Option, Some, None, IfSome, option_map, ap, sym, subst, ◌∙◌, refl, arith, append_assoc, drop-cons, length-append}
-use Rattle.std.proofs.Math.Seq.{take-suc}
-use Rattle.std.proofs.lemmas.Grind.{flat_map-append}
+use Rattle.std.proofs.lemmas.List.Sums.{sum_by_more}
 use Rattle.std.proofs.lemmas.List.{append-nil, get_or-map}
 use Rattle.std.proofs.lemmas.List.{length-map}
 use Rattle.std.proofs.lemmas.List.Elements.{All-nil, All-append, All-push, All-cons}
@@ -29,22 +28,24 @@ use Rattle.dfdl_chains.proofs.Within.{parts_are_within}
 use Rattle.dfdl_breaches.proofs.Numbering.{at-number, numbered}
 use Rattle.dfdl_breaches.specs.declared.judgement.Judgement.{Judgement}
 use Rattle.dfdl_compile.proofs.Hiding.{AreGroupsWithin, hidden_within}
+use Rattle.dfdl_compile.proofs.Calculating.{AreCalculatedSimple, calculated_alone}
 use Rattle.dfdl_breaches.specs.Judging.{judgement_at}
 use Rattle.dfdl_compile.specs.Primitives.{primitive_by}
 use Rattle.dfdl_rows.specs.Components.{Schema, AreOfOne, CanHave}
 use Rattle.dfdl_terms.specs.Framing.{no_fill}
-use Rattle.dfdl_terms.specs.declared.asserting.PatternTest.{PatternTest}
 use Rattle.dfdl_terms.specs.declared.framing.Framing.{Framing}
 use Rattle.dfdl_rows.specs.declared.component.Separated.{Separated}
 use Rattle.dfdl_rows.specs.declared.component.Component.{Component}
-use Rattle.dfdl_rows.specs.declared.component.Component.TheVariants.{Sequence, Hidden}
+use Rattle.dfdl_rows.specs.declared.component.Component.TheVariants.{Sequence, CalculatedElement, Hidden}
 use Rattle.dfdl_rows.specs.declared.refusal.Refusal.{Refusal}
 use Rattle.dfdl_report.specs.declared.place.Place.{Place}
 use Rattle.dfdl_breaches.specs.Elements.{place_of}
-use Rattle.dfdl_compile.specs.Delimiters.{separated_by}
+use Rattle.dfdl_compile.specs.Delimiters.{framing_with, separated_by}
 use Rattle.dfdl_compile.specs.Shown.{HidesElement}
-use Rattle.dfdl_compile.specs.Tests.{all_tests, first_test, judgements_of, tests_before, tests_of}
-use Rattle.dfdl_compile.specs.Components.{refusal_at, choice_by, component_by, component_at, component_with, hiding_by, parts_by, element_name, empty_number, framing_of, nil_number, part_numbers, prefix_by, prefix_number, separator_number, tried_by, components_of}
+use Rattle.dfdl_terms.specs.declared.statement.Statements.{Statements}
+use Rattle.dfdl_written.specs.Noting.{calculated_type}
+use Rattle.dfdl_compile.specs.Statements.{before_by, behind_by, calculation_number, is_set_first, count_by, first_statement, judgements_of, statements_before}
+use Rattle.dfdl_compile.specs.Components.{refusal_at, calculated_by, choice_by, component_by, component_at, component_with, hiding_by, parts_by, element_name, empty_number, framing_of, nil_number, part_numbers, prefix_by, prefix_number, separator_number, terminator_number, tried_by, components_of}
 
 -- a list that is made from one that is made
 pub twice : {X Y Z : Type 0} (g : Y → Z) (f : X → Y) (xs : List X) → map g (map f xs) ≡ map (λ x. g (f x)) xs
@@ -124,7 +125,7 @@ module _ (purpose : Purpose) (refused : Site → Bool) (documents : List SchemaD
   -- the element or group of this kind that an element of the documents is
   abbrev pub of_kind : Kind → Component
   of_kind kind = component_by purpose (element_name documents own) (primitive_by (judgement_at purpose refused documents own)) (number_of documents own)
-      (framing_of documents (first_test purpose refused documents own) own (judgement_at purpose refused documents own)) (judgement_at purpose refused documents own).size
+      (framing_of documents (first_statement purpose refused documents own) own (judgement_at purpose refused documents own)) (judgement_at purpose refused documents own).size
       (option_map (prefix_by (prefix_number documents own)) (judgement_at purpose refused documents own).prefix)
       (tried_by (nil_number documents own) (empty_number documents own) (judgement_at purpose refused documents own).others)
       (option_map (separated_by (separator_number documents own)) (judgement_at purpose refused documents own).markup.separator)
@@ -134,9 +135,41 @@ module _ (purpose : Purpose) (refused : Site → Bool) (documents : List SchemaD
   abbrev pub made : Role → Component
   made r = of_kind (kind_by documents own r)
 
-  pub made_is : component_at purpose refused documents own ≡ hiding_by (judgement_at purpose refused documents own).hidden (made (role_of documents own))
+  -- the element of a calculated value that it is where it is one
+  abbrev pub of_calculation : Component
+  of_calculation = CalculatedElement (element_name documents own) (calculated_type documents own)
+      (calculation_number (first_statement purpose refused documents own) (judgement_at purpose refused documents own))
+      (framing_of documents (first_statement purpose refused documents own) own (judgement_at purpose refused documents own))
+
+  -- that or another component
+  abbrev pub calculation_or : Option (List ℕ) → Component → Component
+  calculation_or calculation component = calculated_by calculation (element_name documents own) (calculated_type documents own)
+      (calculation_number (first_statement purpose refused documents own) (judgement_at purpose refused documents own))
+      (framing_of documents (first_statement purpose refused documents own) own (judgement_at purpose refused documents own)) component
+
+  pub made_is : component_at purpose refused documents own
+      ≡ hiding_by (judgement_at purpose refused documents own).hidden
+      (calculation_or (judgement_at purpose refused documents own).calculation (made (role_of documents own)))
   unfolding kind_at
   made_is = refl
+
+  -- what holds of it, of one whose value is calculated, and of one that hides a group
+  pub by_calculation : (P : Component → Type 0) (o : Option (List ℕ)) (component : Component) → ((text : List ℕ) → o ≡ Some text → P of_calculation)
+      → P component → P (calculation_or o component)
+  by_calculation P None component calculated holds = holds
+  by_calculation P (Some text) component calculated holds = calculated text refl
+
+  by_hiding : (P : Component → Type 0) (hidden : Option Site) (component : Component) → P Hidden → P component → P (hiding_by hidden component)
+  by_hiding P None component hides holds = holds
+  by_hiding P (Some content) component hides holds = hides
+
+  pub by_component : (P : Component → Type 0) → P Hidden
+      → ((text : List ℕ) → (judgement_at purpose refused documents own).calculation ≡ Some text → P of_calculation)
+      → P (of_kind (kind_at documents own)) → P (component_at purpose refused documents own)
+  by_component P hides calculated holds =
+      by_hiding P (judgement_at purpose refused documents own).hidden
+      (calculation_or (judgement_at purpose refused documents own).calculation (of_kind (kind_at documents own))) hides
+      (by_calculation P (judgement_at purpose refused documents own).calculation (of_kind (kind_at documents own)) calculated holds)
 
   typed_fits : (t : Typed) → CanHave (of_kind (kind_of_type t)) (map (number_of documents) (contents documents t))
   typed_fits (Carried simple) = refl
@@ -152,7 +185,7 @@ module _ (purpose : Purpose) (refused : Site → Bool) (documents : List SchemaD
   group_fits kind.Sequence r is parts = tt
   group_fits kind.HiddenSequence r is parts = tt
   group_fits kind.Choice r is parts =
-      choice_fits purpose (framing_of documents (first_test purpose refused documents own) own (judgement_at purpose refused documents own))
+      choice_fits purpose (framing_of documents (first_statement purpose refused documents own) own (judgement_at purpose refused documents own))
       (option_map (separated_by (separator_number documents own)) (judgement_at purpose refused documents own).markup.separator)
       (judgement_at purpose refused documents own).initiates parts
   group_fits kind.ComplexElement role.Choice is parts = absurd (cc)
@@ -161,6 +194,8 @@ module _ (purpose : Purpose) (refused : Site → Bool) (documents : List SchemaD
   group_fits (kind.SimpleElement simple) _ is parts = absurd (cc)
   group_fits kind.UncarriedElement role.Choice is parts = absurd (cc)
   group_fits kind.UncarriedElement _ is parts = absurd (cc)
+  group_fits (kind.CalculatedElement simple) role.Choice is parts = absurd (cc)
+  group_fits (kind.CalculatedElement simple) _ is parts = absurd (cc)
   group_fits (kind.PrefixNumber simple) r is parts = tt
 
   content_fits : (o : Option Site) (parts : List ℕ) → CanHave (of_kind (kind_of_content documents o)) parts
@@ -175,31 +210,38 @@ module _ (purpose : Purpose) (refused : Site → Bool) (documents : List SchemaD
   role_fits role.Choice = group_fits kind.Choice role.Choice refl (map (number_of documents) (role_parts documents own role.Choice))
   role_fits _ = tt
 
-  hiding_fits : (hidden : Option Site) → CanHave (hiding_by hidden (made (role_of documents own))) (map (number_of documents) (parts_by documents own hidden))
+  calculation_fits : AreCalculatedSimple purpose refused documents → (o : Option (List ℕ)) → (judgement_at purpose refused documents own).calculation ≡ o
+      → CanHave (calculation_or o (made (role_of documents own))) (map (number_of documents) (parts_at documents own))
   unfolding parts_at
-  hiding_fits None = role_fits (role_of documents own)
-  hiding_fits (Some content) = refl
+  calculation_fits law None is = role_fits (role_of documents own)
+  calculation_fits law (Some text) is = ap (map (number_of documents)) (calculated_alone purpose refused documents own text law is)
 
-  pub can_have : CanHave (component_at purpose refused documents own) (part_numbers purpose refused documents own)
-  can_have =
+  hiding_fits : AreCalculatedSimple purpose refused documents → (hidden : Option Site)
+      → CanHave (hiding_by hidden (calculation_or (judgement_at purpose refused documents own).calculation (made (role_of documents own))))
+      (map (number_of documents) (parts_by documents own hidden))
+  hiding_fits law None = calculation_fits law (judgement_at purpose refused documents own).calculation refl
+  hiding_fits law (Some content) = refl
+
+  pub can_have : AreCalculatedSimple purpose refused documents → CanHave (component_at purpose refused documents own) (part_numbers purpose refused documents own)
+  can_have law =
       subst (λ (component : Component). CanHave component (part_numbers purpose refused documents own)) (sym made_is)
-      (hiding_fits (judgement_at purpose refused documents own).hidden)
+      (hiding_fits law (judgement_at purpose refused documents own).hidden)
 
 -- the lists of the components are those of one schema
-of_one : (purpose : Purpose) (refused : Site → Bool) (documents : List SchemaDocument) → AreOfOne (components_of purpose refused documents).uses (components_of purpose refused documents).components (components_of purpose refused documents).refusals (components_of purpose refused documents).places
+of_one : (purpose : Purpose) (refused : Site → Bool) (documents : List SchemaDocument) → AreCalculatedSimple purpose refused documents → AreOfOne (components_of purpose refused documents).uses (components_of purpose refused documents).components (components_of purpose refused documents).refusals (components_of purpose refused documents).places
 unfolding components_of
-of_one purpose refused documents = record {
+of_one purpose refused documents law = record {
   counted = length_of (component_at purpose refused documents) (all_sites documents) ∙ sym (length_of (part_numbers purpose refused documents) (all_sites documents));
   judged = length_of (refusal_at purpose refused documents) (all_sites documents) ∙ sym (length_of (part_numbers purpose refused documents) (all_sites documents));
   placed = length_of (place_of documents) (all_sites documents) ∙ sym (length_of (part_numbers purpose refused documents) (all_sites documents));
-  fit = λ c less. fits CanHave (component_at purpose refused documents) (part_numbers purpose refused documents) (can_have purpose refused documents) (Sequence no_fill None false) [] (all_sites documents) c
+  fit = λ c less. fits CanHave (component_at purpose refused documents) (part_numbers purpose refused documents) (λ own. can_have purpose refused documents own law) (Sequence no_fill None false) [] (all_sites documents) c
       (omega (arith, less, length_of (part_numbers purpose refused documents) (all_sites documents)));
 }
 
-pub are_of_one : (purpose : Purpose) (refused : Site → Bool) (documents : List SchemaDocument) (uses : List (List ℕ)) (components : List Component) (refusals : List (Option Refusal)) (places : List Place)
+pub are_of_one : (purpose : Purpose) (refused : Site → Bool) (documents : List SchemaDocument) → AreCalculatedSimple purpose refused documents → (uses : List (List ℕ)) (components : List Component) (refusals : List (Option Refusal)) (places : List Place)
     → uses ≡ (components_of purpose refused documents).uses → components ≡ (components_of purpose refused documents).components → refusals ≡ (components_of purpose refused documents).refusals
     → places ≡ (components_of purpose refused documents).places → AreOfOne uses components refusals places
-are_of_one purpose refused documents uses components refusals places a b c d = rw (a, b, c, d) (of_one purpose refused documents)
+are_of_one purpose refused documents law uses components refusals places a b c d = rw (a, b, c, d) (of_one purpose refused documents law)
 
 -- the components are those of the documents
 made_of : List (List ℕ) → List Component → List (Option Refusal) → List Place → Schema
@@ -237,33 +279,13 @@ list_end {X} {Y} f xs at made whole all same =
     none (n ∷ ns) zero less = absurd (omega (arith, less))
     none (n ∷ ns) (suc i) less = none ns i (omega (arith, less))
 
--- the tests of one element more
-pub tests_more : (judgements : List Judgement) (at : ℕ) (d j : Judgement) (first behind : ℕ) → at < length judgements → j ≡ get_or judgements at d
-    → first ≡ tests_before judgements at → behind ≡ first + length j.tests → behind ≡ tests_before judgements (at + 1)
-tests_more judgements at d j first behind less there first_is behind_is =
-    let after : suc at ≡ at + 1 = omega arith in
-    let one : take (at + 1) judgements ≡ take at judgements ++ get_or judgements at d ∷ []
-    = ap (λ (k : ℕ). take k judgements) (sym after) ∙ take-suc judgements at d less in
-    let all : tests_before judgements (at + 1) ≡ length (all_tests (take at judgements) ++ all_tests (get_or judgements at d ∷ []))
-    = ap (λ (js : List Judgement). length (all_tests js)) one
-    ∙ ap (λ ts. length ts) (flat_map-append tests_of (take at judgements) (get_or judgements at d ∷ [])) in
-    omega (
-      arith,
-      first_is,
-      behind_is,
-      ap (λ (judgement : Judgement). length judgement.tests) there,
-      all,
-      length-append (all_tests (take at judgements)) (all_tests (get_or judgements at d ∷ [])),
-      length-append (get_or judgements at d).tests [],
-    )
-
--- the same behind those before
-pub tests_pushed : (judgements : List Judgement) (j : Judgement) (old new : List PatternTest) → old ≡ all_tests judgements → new ≡ old ++ j.tests
-    → new ≡ all_tests (judgements ++ j ∷ [])
-tests_pushed judgements j old new old_is new_is =
-    new_is
-    ∙ (ap (λ (ts : List PatternTest). ts ++ j.tests) old_is
-    ∙ (ap (λ (ts : List PatternTest). all_tests judgements ++ ts) (sym (append-nil j.tests)) ∙ sym (flat_map-append tests_of judgements (j ∷ []))))
+-- the statements of one element more
+pub statements_more : (judgements : List Judgement) (at : ℕ) (d j : Judgement) (first behind : ℕ) → at < length judgements → j ≡ get_or judgements at d
+    → first ≡ statements_before judgements at → behind ≡ first + count_by j → behind ≡ statements_before judgements (at + 1)
+statements_more judgements at d j first behind less there first_is behind_is =
+    behind_is
+    ∙ ((λ i. first_is i + count_by (there i))
+    ∙ sym (sum_by_more count_by judgements at d less))
 
 -- the element at a place of all has the place's number
 pub number_at : (documents : List SchemaDocument) (at : ℕ) (d : Site) → at < length (all_sites documents) → number_of documents (get_or (all_sites documents) at d) ≡ at
@@ -275,7 +297,7 @@ number_at documents at d less =
 -- the component at a place of all
 pub component_there : (purpose : Purpose) (refused : Site → Bool) (documents : List SchemaDocument) (sites : List Site) (judgements : List Judgement) (at first : ℕ) (component : Component)
     (d : Site) (e j : Judgement) → sites ≡ all_sites documents → judgements ≡ map (judgement_at purpose refused documents) sites → at < length sites
-    → j ≡ get_or judgements at e → first ≡ tests_before judgements at → component ≡ component_with purpose documents first (get_or sites at d) j
+    → j ≡ get_or judgements at e → first ≡ statements_before judgements at → component ≡ component_with purpose documents first (get_or sites at d) j
     → component ≡ component_at purpose refused documents (get_or sites at d)
 component_there purpose refused documents sites judgements at first component d e j sites_are told less there first_is is =
     let own : Site = get_or sites at d in
@@ -284,11 +306,11 @@ component_there purpose refused documents sites judgements at first component d 
     let all : judgements ≡ judgements_of purpose refused documents = told ∙ ap (map (judgement_at purpose refused documents)) sites_are in
     let number : number_of documents (get_or sites at d) ≡ at
     = subst (λ (ss : List Site). at < length ss → number_of documents (get_or ss at d) ≡ at) (sym sites_are) (number_at documents at d) less in
-    let counted : first ≡ first_test purpose refused documents (get_or sites at d)
-    = first_is ∙ (ap (λ (js : List Judgement). tests_before js at) all ∙ ap (tests_before (judgements_of purpose refused documents)) (sym number)) in
+    let counted : first ≡ first_statement purpose refused documents (get_or sites at d)
+    = first_is ∙ (ap (λ (js : List Judgement). statements_before js at) all ∙ ap (statements_before (judgements_of purpose refused documents)) (sym number)) in
     is
     ∙ (ap (λ (n : ℕ). component_with purpose documents n own j) counted
-    ∙ ap (component_with purpose documents (first_test purpose refused documents own) own) judged)
+    ∙ ap (component_with purpose documents (first_statement purpose refused documents own) own) judged)
 
 -- the numbers of the parts at a place of all
 pub parts_there : (purpose : Purpose) (refused : Site → Bool) (documents : List SchemaDocument) (sites : List Site) (judgements : List Judgement) (at : ℕ) (parts : List Site)
@@ -301,3 +323,13 @@ parts_there purpose refused documents sites judgements at parts numbers d e j to
     numbers_are
     ∙ (ap (map (number_of documents)) parts_are
     ∙ ap (λ (j : Judgement). map (number_of documents) (parts_by documents (get_or sites at d) j.hidden)) judged)
+
+-- what frames the content of an element of the documents
+pub framed : (documents : List SchemaDocument) (first : ℕ) (own : Site) (told : Judgement) (is_first : Bool) (before behind : Statements) (initiator terminator : ℕ) (framing : Framing)
+    → is_first ≡ is_set_first (kind_at documents own) → before ≡ before_by is_first first told → behind ≡ behind_by is_first first told
+    → initiator ≡ number_of documents own → terminator ≡ terminator_number documents own
+    → framing ≡ framing_with before behind initiator terminator told → framing ≡ framing_of documents first own told
+framed documents first own told is_first before behind initiator terminator framing first_is before_is behind_is initiator_is terminator_is is =
+    is
+    ∙ ((λ i. framing_with (before_is i) (behind_is i) (initiator_is i) (terminator_is i) told)
+    ∙ ap (λ (b : Bool). framing_with (before_by b first told) (behind_by b first told) (number_of documents own) (terminator_number documents own) told) first_is)

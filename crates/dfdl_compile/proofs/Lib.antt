@@ -1,6 +1,14 @@
 mod Hiding
+mod Calculating
 mod Fitting
 mod Searches
 mod Ending
+mod Noted
+mod Written
 mod Taken
+mod Tabled
+mod Typed
+mod Bare
+mod Rooted
+mod Finishing
 mod Coming

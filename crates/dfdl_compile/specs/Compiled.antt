@@ -1,4 +1,5 @@
--- THE meaning of a schema: its rows, or why it has none.
+-- THE meaning of a schema: its rows with the statements that its documents write, or why it has none. What the statements come to is told
+-- behind all of it ('specs/Settling.antt').
 use Rattle.std.specs.Prelude.{ℕ, Bool, List, nat_lt, length, Option, None, Some, Result, Ok, Err, if◌then◌else◌}
 use Rattle.dfdl_report.specs.declared.cause.LimitCause.{LimitCause}
 use Rattle.dfdl_report.specs.declared.cause.LimitCause.TheVariants.{Depth, Rows}
@@ -10,8 +11,10 @@ use Rattle.dfdl_order.specs.Cycles.{reaches_itself}
 use Rattle.dfdl_components.specs.declared.site.Site.{Site}
 use Rattle.dfdl_components.specs.Recursion.{number_of}
 use Rattle.dfdl_components.specs.Searching.{first_below}
-use Rattle.dfdl_terms.specs.Rows.{Table, table_of}
-use Rattle.dfdl_terms.specs.Tables.{Named}
+use Rattle.dfdl_terms.specs.declared.delimiters.Delimiters.{Delimiters}
+use Rattle.dfdl_terms.specs.declared.row.Primitive.{Primitive}
+use Rattle.dfdl_terms.specs.declared.row.Row.{Row}
+use Rattle.dfdl_vars.specs.declared.values.VarDef.{VarDef}
 use Rattle.dfdl_chains.specs.Everywhere.{site_at}
 use Rattle.dfdl_breaches.specs.Elements.{place_of}
 use Rattle.dfdl_breaches.specs.Roots.{root_of}
@@ -22,29 +25,56 @@ use Rattle.dfdl_rows.specs.RowLists.{rows_of}
 use Rattle.dfdl_rows.specs.Sizes.{size_of}
 use Rattle.dfdl_rows.specs.declared.refusal.Refusal.{Refusal}
 use Rattle.dfdl_checks.specs.declared.purpose.Purpose.{Purpose}
-use Rattle.dfdl_compile.specs.Components.{components_of, named_of}
+use Rattle.dfdl_written.specs.Variables.{definitions_of}
+use Rattle.dfdl_written.specs.declared.noted.Noted.{Noted}
+use Rattle.dfdl_compile.specs.Components.{components_of, delimiters_of, primitives_of}
+use Rattle.dfdl_compile.specs.Statements.{noted_of}
 
 -- why a schema has no rows: a rule is broken, told at a place, or a limit of this number is reached
 pub data CompileEnd : Type 0 where
   Refused : SchemaCause → Place → CompileEnd
   Limit : LimitCause → ℕ → CompileEnd
 
--- the rows of a root over what they name, where there are no more than the limit allows
-abbrev pub by_rows : Named → Asked → Result Table CompileEnd
-by_rows named a =
+-- what the documents say of all rows: the primitives and the lists of literals, the statements as they are written, and the variables
+pub record Told : Type 0 where
+  pub primitives : List Primitive
+  pub delimiters : List Delimiters
+  pub noted : List Noted
+  pub variables : List VarDef
+
+-- the same of documents, where patterns of these elements are refused
+abbrev pub told_of : Purpose → (Site → Bool) → List SchemaDocument → Told
+told_of purpose refused documents = record {
+  primitives = primitives_of purpose refused documents;
+  delimiters = delimiters_of purpose refused documents;
+  noted = noted_of purpose refused documents;
+  variables = definitions_of documents;
+}
+
+-- rows, and what the documents say of all of them
+pub record Laid : Type 0 where
+  pub rows : List Row
+  pub told : Told
+
+abbrev pub laid : List Row → Told → Laid
+laid rows told = record { rows = rows; told = told }
+
+-- the rows of a root, where there are no more than the limit allows
+abbrev pub by_rows : Told → Asked → Result Laid CompileEnd
+by_rows told a =
     if nat_lt a.rows (size_of a.schema a.root) then Err (Limit Rows a.rows)
-    else Ok (table_of (rows_of a.schema a.root) named)
+    else Ok (laid (rows_of a.schema a.root) told)
 
 -- the same, where no component that is reached is refused
-abbrev pub by_refusal : Named → Asked → Option Refusal → Result Table CompileEnd
-by_refusal named a None = by_rows named a
-by_refusal named a (Some refusal) = Err (Refused refusal.cause refusal.place)
+abbrev pub by_refusal : Told → Asked → Option Refusal → Result Laid CompileEnd
+by_refusal told a None = by_rows told a
+by_refusal told a (Some refusal) = Err (Refused refusal.cause refusal.place)
 
 -- the same, where elements are nested no deeper than the limit allows
-unfoldable pub by_depth : Named → Asked → Result Table CompileEnd
-by_depth named a =
+unfoldable pub by_depth : Told → Asked → Result Laid CompileEnd
+by_depth told a =
     if nat_lt a.depth (depth_of a.schema a.root) then Err (Limit Depth a.depth)
-    else by_refusal named a (first_refusal a.schema a.root)
+    else by_refusal told a (first_refusal a.schema a.root)
 
 -- the component, if it reaches itself through its parts
 abbrev pub if_recursive : List (List ℕ) → ℕ → Option ℕ
@@ -54,22 +84,22 @@ if_recursive uses c = if reaches_itself uses c then Some c else None
 unfoldable pub first_recursive : List (List ℕ) → Option ℕ
 first_recursive uses = first_below (if_recursive uses) (length uses)
 
--- what a root comes to over what its rows name, where no component reaches itself, else the first one that does
-abbrev pub by_recursion : List SchemaDocument → Named → Asked → Option ℕ → Result Table CompileEnd
-by_recursion documents named a None = by_depth named a
-by_recursion documents named a (Some c) = Err (Refused Recursive (place_of documents (site_at documents c)))
+-- what a root comes to, where no component reaches itself, else the first one that does
+abbrev pub by_recursion : List SchemaDocument → Told → Asked → Option ℕ → Result Laid CompileEnd
+by_recursion documents told a None = by_depth told a
+by_recursion documents told a (Some c) = Err (Refused Recursive (place_of documents (site_at documents c)))
 
 -- the first byte of the first document
 abbrev pub first_place : Place
 first_place = record { document = 0; at = 0 }
 
 -- what documents with this root come to
-abbrev pub by_root : Purpose → (Site → Bool) → List SchemaDocument → ℕ → ℕ → Option Site → Result Table CompileEnd
+abbrev pub by_root : Purpose → (Site → Bool) → List SchemaDocument → ℕ → ℕ → Option Site → Result Laid CompileEnd
 by_root purpose refused documents depth rows None = Err (Refused NameNotFound first_place)
 by_root purpose refused documents depth rows (Some root) =
-    by_recursion documents (named_of purpose refused documents) (asked (components_of purpose refused documents) (number_of documents root) depth rows)
+    by_recursion documents (told_of purpose refused documents) (asked (components_of purpose refused documents) (number_of documents root) depth rows)
     (first_recursive (components_of purpose refused documents).uses)
 
 -- what documents come to for a purpose, where elements may be nested so deep, and there may be so many rows
-unfoldable pub compiled : Purpose → (Site → Bool) → List SchemaDocument → ℕ → ℕ → Result Table CompileEnd
+unfoldable pub compiled : Purpose → (Site → Bool) → List SchemaDocument → ℕ → ℕ → Result Laid CompileEnd
 compiled purpose refused documents depth rows = by_root purpose refused documents depth rows (root_of documents)

@@ -3,6 +3,7 @@
 -- Model').
 use Rattle.std.specs.Prelude.{ℕ, ◌+◌, Bool, List, [], ◌∷◌, ◌++◌, map, Option, None, Some, option_map, codes}
 use Rattle.std.specs.Option.{unwrap_or}
+use Rattle.dfdl_forms.specs.declared.simple.Simple.{Simple}
 use Rattle.dfdl_documents.specs.Documents.{SchemaDocument}
 use Rattle.dfdl_components.specs.declared.site.Site.{Site}
 use Rattle.dfdl_components.specs.Recursion.{count_of, number_of}
@@ -30,13 +31,12 @@ use Rattle.dfdl_rows.specs.Components.{Schema}
 use Rattle.dfdl_rows.specs.declared.component.ContentBox.{ContentBox}
 use Rattle.dfdl_rows.specs.declared.component.ContentBox.TheVariants.{Unbounded, Sized, Prefixed}
 use Rattle.dfdl_rows.specs.declared.component.Component.{Component}
-use Rattle.dfdl_rows.specs.declared.component.Component.TheVariants.{Sequence, Choice, ComplexElement, SimpleElement, Hidden}
+use Rattle.dfdl_rows.specs.declared.component.Component.TheVariants.{Sequence, Choice, ComplexElement, SimpleElement, CalculatedElement, Hidden}
 use Rattle.dfdl_rows.specs.declared.component.Separated.{Separated}
 use Rattle.dfdl_rows.specs.declared.refusal.Refusal.{Refusal}
 use Rattle.dfdl_terms.specs.declared.delimiters.Delimiters.{Delimiters}
-use Rattle.dfdl_terms.specs.Tables.{Named}
-use Rattle.dfdl_compile.specs.Tests.{all_tests, first_test, judgements_of}
-use Rattle.dfdl_terms.specs.declared.asserting.PatternTest.{PatternTest}
+use Rattle.dfdl_written.specs.Noting.{calculated_type}
+use Rattle.dfdl_compile.specs.Statements.{calculation_number, first_statement, is_set_first}
 use Rattle.dfdl_compile.specs.Delimiters.{framing_by, initiator_list_by, separated_by, separator_list_by, terminator_list_by}
 use Rattle.dfdl_compile.specs.Primitives.{empty_primitive_by, is_scanned, nil_primitive_by, prefix_primitive_by, primitive_by}
 
@@ -68,9 +68,10 @@ terminator_number documents own = count_of documents + number_of documents own
 abbrev pub separator_number : List SchemaDocument → Site → ℕ
 separator_number documents own = count_of documents + terminator_number documents own
 
--- what frames the content of an element of which this is told, where its first test has this number
+-- what frames the content of an element of which this is told, where its first statement has this number
 abbrev pub framing_of : List SchemaDocument → ℕ → Site → Judgement → Framing
-framing_of documents first own judgement = framing_by first (number_of documents own) (terminator_number documents own) judgement
+framing_of documents first own judgement =
+    framing_by (is_set_first (kind_at documents own)) first (number_of documents own) (terminator_number documents own) judgement
 
 -- the number of a primitive, where there is one
 abbrev pub number_if : ℕ → Option Primitive → Option ℕ
@@ -114,6 +115,8 @@ component_by purpose name primitive number framing size prefix tried separated i
     SimpleElement name (type_of primitive) number framing prefix tried (is_scanned primitive) occurs parsed
 component_by purpose name primitive number framing size prefix tried separated initiated occurs parsed kind.UncarriedElement =
     SimpleElement name (type_of primitive) number framing prefix tried (is_scanned primitive) occurs parsed
+component_by purpose name primitive number framing size prefix tried separated initiated occurs parsed (kind.CalculatedElement simple) =
+    SimpleElement name (type_of primitive) number framing prefix tried (is_scanned primitive) occurs parsed
 component_by purpose name primitive number framing size prefix tried separated initiated occurs parsed kind.Sequence =
     Sequence framing separated initiated
 component_by purpose name primitive number framing size prefix tried separated initiated occurs parsed kind.HiddenSequence =
@@ -128,21 +131,28 @@ abbrev pub hiding_by : Option Site → Component → Component
 hiding_by None component = component
 hiding_by (Some content) component = Hidden
 
--- what an element of the documents is for a purpose, of which this is told, where its first test has this number
+-- an element of this name and type whose value the statement of this number calculates, or this component, where no value is calculated
+abbrev pub calculated_by : Option (List ℕ) → List ℕ → Simple → ℕ → Framing → Component → Component
+calculated_by None name simple statement framing component = component
+calculated_by (Some text) name simple statement framing component = CalculatedElement name simple statement framing
+
+-- what an element of the documents is for a purpose, of which this is told, where its first statement has this number
 abbrev pub component_with : Purpose → List SchemaDocument → ℕ → Site → Judgement → Component
 component_with purpose documents first own judgement =
     hiding_by judgement.hidden
+    (calculated_by judgement.calculation (element_name documents own) (calculated_type documents own) (calculation_number first judgement)
+    (framing_of documents first own judgement)
     (component_by purpose (element_name documents own) (primitive_by judgement) (number_of documents own) (framing_of documents first own judgement)
     judgement.size
     (option_map (prefix_by (prefix_number documents own)) judgement.prefix)
     (tried_by (nil_number documents own) (empty_number documents own) judgement.others)
     (option_map (separated_by (separator_number documents own)) judgement.markup.separator) judgement.initiates judgement.occurs judgement.is_parsed
-    (kind_at documents own))
+    (kind_at documents own)))
 
 -- what an element of the documents is
 abbrev pub component_at : Purpose → (Site → Bool) → List SchemaDocument → Site → Component
 component_at purpose refused documents own =
-    component_with purpose documents (first_test purpose refused documents own) own (judgement_at purpose refused documents own)
+    component_with purpose documents (first_statement purpose refused documents own) own (judgement_at purpose refused documents own)
 
 -- the parts of a component that hides the group of this sequence or choice, or none
 abbrev pub parts_by : List SchemaDocument → Site → Option Site → List Site
@@ -213,15 +223,3 @@ unfoldable pub delimiters_of : Purpose → (Site → Bool) → List SchemaDocume
 delimiters_of purpose refused documents =
     for_each documents (initiator_list_at purpose refused documents)
     ++ (for_each documents (terminator_list_at purpose refused documents) ++ for_each documents (separator_list_at purpose refused documents))
-
--- the tests of the documents: those of their elements, one element after the other
-unfoldable pub tests_of : Purpose → (Site → Bool) → List SchemaDocument → List PatternTest
-tests_of purpose refused documents = all_tests (judgements_of purpose refused documents)
-
--- what the rows of the documents name
-abbrev pub named_of : Purpose → (Site → Bool) → List SchemaDocument → Named
-named_of purpose refused documents = record {
-  primitives = primitives_of purpose refused documents;
-  delimiters = delimiters_of purpose refused documents;
-  tests = tests_of purpose refused documents;
-}

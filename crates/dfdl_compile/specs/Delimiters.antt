@@ -1,6 +1,6 @@
 -- The initiators, terminators and separators of the components of a schema: their literals in the tables, one list of each for each
 -- element of its documents, and the framing and the separators that name these by their numbers ('Framing', 'Sequence Groups').
-use Rattle.std.specs.Prelude.{ℕ, [], false, Option, None, Some, option_map}
+use Rattle.std.specs.Prelude.{ℕ, [], Bool, false, Option, None, Some, option_map}
 use Rattle.dfdl_forms.specs.declared.encoding.Encoding.TheVariants.{Utf8}
 use Rattle.dfdl_checks.specs.declared.delimiters.Delimiting.{Delimiting}
 use Rattle.dfdl_checks.specs.declared.delimiters.Separating.{Separating}
@@ -8,8 +8,9 @@ use Rattle.dfdl_rows.specs.declared.component.Separated.{Separated}
 use Rattle.dfdl_terms.specs.declared.delimiters.Delimiter.{Delimiter}
 use Rattle.dfdl_terms.specs.declared.delimiters.Delimiters.{Delimiters}
 use Rattle.dfdl_terms.specs.declared.framing.Framing.{Framing}
+use Rattle.dfdl_terms.specs.declared.statement.Statements.{Statements}
 use Rattle.dfdl_breaches.specs.declared.judgement.Judgement.{Judgement}
-use Rattle.dfdl_compile.specs.Tests.{tests_by}
+use Rattle.dfdl_compile.specs.Statements.{before_by, behind_by}
 
 -- the list that stands for no delimiter
 abbrev pub no_list : Delimiters
@@ -45,11 +46,17 @@ separated_by number separator = record { list = number; position = separator.pos
 abbrev pub delimiter_by : ℕ → Delimiting → Delimiter
 delimiter_by number delimiter = record { list = number; in_nil = delimiter.in_nil; in_empty = delimiter.in_empty }
 
--- what frames the content of an element of which this is told, where its first test and the literals of its initiator and its terminator
--- have these numbers
-abbrev pub framing_by : ℕ → ℕ → ℕ → Judgement → Framing
-framing_by first initiator terminator judgement = record judgement.framing {
-  tests = tests_by first judgement;
+-- what frames the content of a component of which this is told, before and behind which these statements stand, and the literals of whose
+-- initiator and terminator have these numbers
+abbrev pub framing_with : Statements → Statements → ℕ → ℕ → Judgement → Framing
+framing_with before behind initiator terminator judgement = record judgement.framing {
+  before = before;
+  behind = behind;
   initiator = option_map (delimiter_by initiator) judgement.markup.initiator;
   terminator = option_map (delimiter_by terminator) judgement.markup.terminator;
 }
+
+-- the same, where its first statement has this number, and it sets variables before all else or behind all
+abbrev pub framing_by : Bool → ℕ → ℕ → ℕ → Judgement → Framing
+framing_by is_first first initiator terminator judgement =
+    framing_with (before_by is_first first judgement) (behind_by is_first first judgement) initiator terminator judgement

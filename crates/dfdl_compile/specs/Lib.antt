@@ -1,8 +1,9 @@
 pub mod Primitives
+pub mod Statements
 pub mod Delimiters
-pub mod Tests
 pub mod Components
 pub mod Compiled
+pub mod Settling
 pub mod Builds
 pub mod Faults
 pub mod FaultsShown

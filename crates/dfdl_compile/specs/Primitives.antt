@@ -11,7 +11,10 @@ use Rattle.dfdl_terms.specs.declared.representations.Representations.{Representa
 use Rattle.dfdl_terms.specs.declared.row.Primitive.{Primitive}
 use Rattle.dfdl_terms.specs.declared.row.Primitive.TheVariants.{Integer, Packed, Truth, Octets, Text, NilOctets, Default, NilValues, Pattern}
 use Rattle.dfdl_terms.specs.declared.row.Row.{Row}
-use Rattle.dfdl_terms.specs.declared.row.Row.TheVariants.{Leaf, Elem, Group, Skip, Align, Initiator, Terminator, Separator, Scope, Boxed, PrefixedLeaf, PrefixedBox, Repeat, Optional, Choice, Test, Hidden, Separated}
+use Rattle.dfdl_terms.specs.declared.row.Row.TheVariants.{Leaf, Elem, Group, Skip, Align, Initiator, Terminator, Separator, Scope, Boxed, PrefixedLeaf, PrefixedBox, Repeat, Optional, Choice, Statement, Concluded, Hidden, Separated}
+use Rattle.dfdl_terms.specs.declared.statement.Statement.{Statement as AnyStatement}
+use Rattle.dfdl_terms.specs.declared.statement.Statement.TheVariants as any
+use Rattle.dfdl_terms.specs.declared.statement.Statements.{Statements}
 use Rattle.dfdl_terms.specs.declared.text.DefaultForm.{DefaultForm}
 use Rattle.dfdl_terms.specs.declared.text.TextSize.{TextSize}
 use Rattle.dfdl_terms.specs.declared.text.TextSize.TheVariants.{Bits, Characters, Delimited}
@@ -71,16 +74,24 @@ abbrev pub IsOfType : Simple → Option Primitive → Type 0
 IsOfType simple None = ⊥
 IsOfType simple (Some primitive) = type_of primitive ≡ simple
 
--- the body of each simple element reads a value by a primitive of the element's type
+-- there is a statement, and it calculates values of the type
+abbrev pub CalculatesType : Simple → Option AnyStatement → Type 0
+CalculatesType simple None = ⊥
+CalculatesType simple (Some (any.Calculation calculation)) = calculation.kind ≡ simple
+CalculatesType simple (Some (any.Pattern test)) = ⊥
+CalculatesType simple (Some (any.Expression test)) = ⊥
+CalculatesType simple (Some (any.Setting setting)) = ⊥
+
+-- the body of each simple element reads a value by a primitive of the element's type, or calculates one of the type
 abbrev pub HasTypedLeaves : Table → Type 0
-HasTypedLeaves t = (row : ℕ) (name : List ℕ) (simple : Simple) (tried : Representations) (body : ℕ)
-    → slice_get t.rows row ≡ Some (Elem name (Some simple) tried body)
-    → ReadsBy t.rows (λ prim. IsOfType simple (slice_get t.primitives prim)) body
+HasTypedLeaves t = (row : ℕ) (name : List ℕ) (simple : Simple) (tried : Representations) (behind : Statements) (body : ℕ)
+    → slice_get t.rows row ≡ Some (Elem name (Some simple) tried behind body)
+    → ReadsBy t.rows (λ prim. IsOfType simple (slice_get t.primitives prim)) (λ number. CalculatesType simple (slice_get t.statements number)) body
 
 -- there is a row, and it is a leaf of a primitive of the type
 abbrev pub IsLeafOfType : List Primitive → Simple → Option Row → Type 0
 IsLeafOfType primitives simple (Some (Leaf prim)) = IsOfType simple (slice_get primitives prim)
-IsLeafOfType primitives simple (Some (Elem name other tried body)) = ⊥
+IsLeafOfType primitives simple (Some (Elem name other tried behind body)) = ⊥
 IsLeafOfType primitives simple (Some (Group children)) = ⊥
 IsLeafOfType primitives simple (Some (Skip bits)) = ⊥
 IsLeafOfType primitives simple (Some (Align bits)) = ⊥
@@ -94,12 +105,13 @@ IsLeafOfType primitives simple (Some (PrefixedBox prefix inside)) = ⊥
 IsLeafOfType primitives simple (Some (Repeat count inside)) = ⊥
 IsLeafOfType primitives simple (Some (Optional most item initiated inside)) = ⊥
 IsLeafOfType primitives simple (Some (Choice branches initiated)) = ⊥
-IsLeafOfType primitives simple (Some (Test test)) = ⊥
+IsLeafOfType primitives simple (Some (Statement statement)) = ⊥
+IsLeafOfType primitives simple (Some (Concluded behind inside)) = ⊥
 IsLeafOfType primitives simple (Some (Hidden inside)) = ⊥
 IsLeafOfType primitives simple (Some (Separated policy position initiated slots)) = ⊥
 IsLeafOfType primitives simple None = ⊥
 
 -- the body of each simple element is itself a leaf of a primitive of the element's type
 abbrev pub HasBareTypedLeaves : Table → Type 0
-HasBareTypedLeaves t = (row : ℕ) (name : List ℕ) (simple : Simple) (tried : Representations) (body : ℕ)
-    → slice_get t.rows row ≡ Some (Elem name (Some simple) tried body) → IsLeafOfType t.primitives simple (slice_get t.rows body)
+HasBareTypedLeaves t = (row : ℕ) (name : List ℕ) (simple : Simple) (tried : Representations) (behind : Statements) (body : ℕ)
+    → slice_get t.rows row ≡ Some (Elem name (Some simple) tried behind body) → IsLeafOfType t.primitives simple (slice_get t.rows body)

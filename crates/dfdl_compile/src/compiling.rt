@@ -1,6 +1,9 @@
 // The terms of a schema, or why it has none.
-ghost use Rattle.std.specs.Prelude.{◌≡◌, ◌<◌, ◌≤◌, Bool, true, length, All, Ok, Some, None, IfOk, IfErr};
-ghost use Rattle.dfdl_terms.specs.Rows.{HasElementLast, HasPlainRows, most_rows};
+ghost use Rattle.std.specs.Prelude.{◌≡◌, ◌<◌, ◌≤◌, ◌++◌, Bool, true, length, map, vec_len, All, Ok, Some, None, IfOk, IfErr};
+ghost use Rattle.std.specs.List.{AllZip};
+ghost use Rattle.dfdl_terms.specs.Rows.{HasElementLast, HasPlainRows, IsPrimitive, NamesWithin, Nests, most_rows};
+ghost use Rattle.dfdl_terms.specs.Tables.{Named};
+ghost use Rattle.dfdl_rows.specs.Leaves.{HaveBareLeaves, HaveLeaves};
 ghost use Rattle.dfdl_report.specs.declared.cause.SchemaCause.TheVariants.{Recursive};
 ghost use Rattle.dfdl_components.specs.Rules.{AllKeep, loading_rules};
 ghost use Rattle.dfdl_components.specs.Sites.{IsSite, role_of};
@@ -9,25 +12,32 @@ ghost use Rattle.dfdl_chains.specs.Everywhere as everywhere;
 ghost use Rattle.dfdl_chains.specs.Shown.{AreNumbers};
 ghost use Rattle.dfdl_breaches.specs.Elements.{place_of};
 ghost use Rattle.dfdl_compile.specs.declared.fault.CompileFault.TheVariants.{Refused, OutOfMemory};
-ghost use Rattle.dfdl_compile.specs.Components.{components_of};
+ghost use Rattle.dfdl_variables.specs.Variables.{variables_of};
+ghost use Rattle.dfdl_written.specs.Noting.{IsNotedWithin, noted_each, stated_by};
+ghost use Rattle.dfdl_compile.specs.Components.{components_of, delimiters_of, primitives_of};
 ghost use Rattle.dfdl_compile.specs.Builds.{ComesTo, ComesToFault};
-ghost use Rattle.dfdl_compile.specs.Compiled.{by_root, first_recursive};
-ghost use Rattle.dfdl_compile.specs.Primitives.{HasTypedLeaves, HasBareTypedLeaves};
+ghost use Rattle.dfdl_compile.specs.Compiled.{by_root, first_recursive, laid, told_of};
+ghost use Rattle.dfdl_compile.specs.Delimiters.{initiator_list_by, separator_list_by, terminator_list_by};
+ghost use Rattle.dfdl_compile.specs.Primitives.{HasTypedLeaves, HasBareTypedLeaves, HasWrittenText, empty_primitive_by, nil_primitive_by, prefix_primitive_by, primitive_by};
+ghost use Rattle.dfdl_compile.specs.Settling.{Ends, Settles};
+ghost use Rattle.dfdl_compile.specs.Statements.{noted_of};
 ghost use Rattle.dfdl_checks.specs.Forms.{IsWhole};
 ghost use Rattle.dfdl_checks.specs.declared.purpose.Purpose.TheVariants.{Parsing, Unparsing};
 ghost use Rattle.dfdl_chains.specs.Everywhere.{for_each};
 ghost use Rattle.dfdl_breaches.specs.Judging.{judgement_at};
 ghost use Rattle.dfdl_breaches.specs.Roots.{is_global_element};
-ghost use Rattle.dfdl_compile.specs.Faults.{IsFaultOf, IsRecursionFault};
+ghost use Rattle.dfdl_compile.specs.Faults.{IsEndFault, IsFaultOf, IsRecursionFault, IsSettledFault};
 ghost use Rattle.dfdl_compile.specs.FaultsShown.{fault_of};
-ghost use Rattle.dfdl_compile.specs.Shown.{AreGathered, HidesElement};
+ghost use Rattle.dfdl_compile.specs.Shown.{AreGathered, EndsWithElement, HidesElement, IsAsWritten, IsStatedWithin, told_shown};
 
 use crate::fault::CompileFault;
 use crate::gathering::{components, refusals};
 use crate::parts::{place_at, places, uses};
-use crate::primitives::tables;
+use crate::primitives::{Naming, named};
+use crate::settling::{SettledRows, settle_rows};
 use dfdl_breaches::laws::{
-    hidden_groups_are_within, sound_elements_have_bounded_primitives, statements_are_for_parsing,
+    calculated_elements_are_simple, hidden_groups_are_within,
+    sound_elements_have_bounded_primitives, statements_are_for_parsing, told_statements_are_within,
 };
 use dfdl_breaches::{Judgement, breaches, root_of};
 use dfdl_chains::{Numbers, all_sites};
@@ -37,9 +47,11 @@ use dfdl_edge::Patterns;
 use dfdl_order::laws::nothing_in_an_order_reaches_itself;
 use dfdl_order::{OrderFault, Uses, order_of};
 use dfdl_report::{Place, SchemaCause};
-use dfdl_rows::{Component, Components, Refusal, RowsFault, terms_of};
-use dfdl_terms::Terms;
-use std::alloc::Global;
+use dfdl_rows::{Component, Components, Refusal, RowsFault, rows_of, terms_from};
+use dfdl_terms::{Delimiters, Primitive, Row, Tables, Terms};
+use dfdl_variables::{Declared, variables_of};
+use dfdl_written::{Noted, definitions, note};
+use std::alloc::{AllocError, Global};
 
 // A fault of rows as one of a schema.
 fn fault_of(fault: RowsFault) -> CompileFault
@@ -138,6 +150,7 @@ fn ordered(alloc: Global, schema: &Schema, gathered: Gathered) -> Result<Compone
 {
     nothing_in_an_order_reaches_itself();
     hidden_groups_are_within();
+    calculated_elements_are_simple();
     let Gathered {
         sites,
         uses,
@@ -155,7 +168,139 @@ fn ordered(alloc: Global, schema: &Schema, gathered: Gathered) -> Result<Compone
     }
 }
 
+// The rows of a schema with this root, of whose elements this is told, or why it has none.
+fn lay(
+    alloc: Global,
+    schema: &Schema,
+    numbers: &Numbers,
+    purpose: Purpose,
+    judgements: &[Judgement],
+    root: Site,
+    depth: u32,
+    rows: u32,
+) -> Result<Vec<Row>, CompileFault>
+    requires told { (refused : declared_site.Site → Bool)
+        × (judgements.now ≡ for_each schema.now (judgement_at purpose refused schema.now)) }
+    requires numbers { AreNumbers schema.now numbers.now }
+    requires within { IsSite schema.now root }
+    requires global { is_global_element (role_of schema.now root) ≡ true }
+    ensures rows { (refused : declared_site.Site → Bool)
+        → judgements.now ≡ for_each schema.now (judgement_at purpose refused schema.now)
+        → IfOk result (λ made. by_root purpose refused schema.now depth rows (Some root) ≡ Ok (laid made.items (told_of purpose refused schema.now))) }
+    ensures fault { (refused : declared_site.Site → Bool)
+        → judgements.now ≡ for_each schema.now (judgement_at purpose refused schema.now)
+        → IfErr result (IsFaultOf (by_root purpose refused schema.now depth rows (Some root))) }
+    ensures some { IfOk result (λ made. 0 < vec_len made) }
+    ensures few { IfOk result (λ made. vec_len made ≤ rows) }
+    ensures nests { IfOk result (λ made. Nests made.items) }
+    ensures named { (refused : declared_site.Site → Bool)
+        → judgements.now ≡ for_each schema.now (judgement_at purpose refused schema.now)
+        → (named : Named) → named.primitives ≡ primitives_of purpose refused schema.now → named.delimiters ≡ delimiters_of purpose refused schema.now
+        → length named.statements ≡ length (noted_of purpose refused schema.now)
+        → IfOk result (λ made. All (NamesWithin named) made.items) }
+    ensures element { IfOk result (λ made. EndsWithElement made.items) }
+    ensures leaves { (refused : declared_site.Site → Bool)
+        → judgements.now ≡ for_each schema.now (judgement_at purpose refused schema.now)
+        → IfOk result (λ made. HaveLeaves (components_of purpose refused schema.now).components made.items) }
+    ensures bare { purpose ≡ Unparsing → (refused : declared_site.Site → Bool)
+        → judgements.now ≡ for_each schema.now (judgement_at purpose refused schema.now)
+        → IfOk result (λ made. HaveBareLeaves (components_of purpose refused schema.now).components made.items) }
+    ensures plain { purpose ≡ Unparsing → IfOk result (λ made. HasPlainRows made.items) }
+{
+    sound_elements_have_bounded_primitives();
+    statements_are_for_parsing();
+    hidden_groups_are_within();
+    let gathered = gather(alloc, schema, numbers, purpose, judgements)?;
+    let components = ordered(alloc, schema, gathered)?;
+    let number = numbers.number(schema, root);
+    match rows_of(alloc, &components, number, depth, rows) {
+        Ok(made) => Ok(made),
+        Err(fault) => Err(fault_of(fault)),
+    }
+}
+
+// What the documents say of all rows.
+#[derive(Drop)]
+struct ToldLists {
+    primitives: Vec<Primitive>,
+    delimiters: Vec<Delimiters>,
+    noted: Vec<Noted>,
+}
+
+// The same of a schema with these variables, of whose elements this is told.
+fn tell(
+    alloc: Global,
+    schema: &Schema,
+    numbers: &Numbers,
+    variables: &[Declared],
+    judgements: Vec<Judgement>,
+) -> Result<ToldLists, AllocError>
+    requires numbers { AreNumbers schema.now numbers.now }
+    requires variables { variables.now ≡ variables_of schema.now }
+    requires told { length judgements.items ≡ length (everywhere.all_sites schema.now) }
+    requires stated { All (IsStatedWithin schema.now) judgements.items }
+    ensures primitives { IfOk result (λ told. told.primitives.items ≡ map primitive_by judgements.items
+        ++ (map prefix_primitive_by judgements.items
+        ++ (map nil_primitive_by judgements.items ++ map empty_primitive_by judgements.items))) }
+    ensures delimiters { IfOk result (λ told. told.delimiters.items ≡ map initiator_list_by judgements.items
+        ++ (map terminator_list_by judgements.items ++ map separator_list_by judgements.items)) }
+    ensures noted { IfOk result (λ told. told.noted.items
+        ≡ noted_each schema.now (everywhere.all_sites schema.now) (map stated_by judgements.items)) }
+    ensures within { IfOk result (λ told. All (IsNotedWithin schema.now) told.noted.items) }
+    ensures written { IfOk result (λ told. All HasWrittenText told.primitives.items) }
+{
+    let sites = all_sites(alloc, schema)?;
+    let Naming {
+        primitives,
+        delimiters,
+        stated,
+    } = named(alloc, judgements)?;
+    let noted = note(alloc, schema, numbers, variables, sites.as_slice(), stated)?;
+    Ok(ToldLists {
+        primitives,
+        delimiters,
+        noted,
+    })
+}
+
+// The terms of rows over what the documents say of them and the variables of these, or why a statement is refused.
+fn finish(
+    alloc: Global,
+    schema: &Schema,
+    rows: Vec<Row>,
+    told: ToldLists,
+    variables: Vec<Declared>,
+) -> Result<Terms, CompileFault>
+    requires some { 0 < vec_len rows }
+    requires few { vec_len rows ≤ most_rows }
+    requires nests { Nests rows.items }
+    requires named { (named : Named) → named.primitives ≡ told.primitives.items → named.delimiters ≡ told.delimiters.items
+        → length named.statements ≡ length told.noted.items → All (NamesWithin named) rows.items }
+    requires bounded { All IsPrimitive told.primitives.items }
+    requires within { All (IsNotedWithin schema.now) told.noted.items }
+    requires variables { variables.items ≡ variables_of schema.now }
+    ensures rows { IfOk result (λ t. t.rows ≡ rows.items) }
+    ensures primitives { IfOk result (λ t. t.primitives ≡ told.primitives.items) }
+    ensures written { IfOk result (λ t. AllZip IsAsWritten told.noted.items t.statements) }
+    ensures settled { IfOk result (λ t. Settles schema.now (laid rows.items (told_shown told variables.items)) (Ok t)) }
+    ensures fault { IfErr result (IsSettledFault schema.now (laid rows.items (told_shown told variables.items))) }
+{
+    let ToldLists {
+        primitives,
+        delimiters,
+        noted,
+    } = told;
+    let SettledRows {
+        statements,
+        numbers,
+    } = settle_rows(alloc, schema, rows.as_slice(), noted, variables.as_slice())?;
+    let variables = definitions(alloc, variables)?;
+    let tables = Tables::new(primitives, delimiters, statements, numbers, variables);
+    Ok(terms_from(alloc, rows, tables))
+}
+
 // The terms of a schema with this root, of whose elements this is told, or why it has none.
+#[tactic(auto, using(crate::proofs::Finishing::rows_fault))]
 fn compile_root(
     alloc: Global,
     schema: &Schema,
@@ -172,10 +317,10 @@ fn compile_root(
     requires few { rows ≤ most_rows }
     ensures rows { (refused : declared_site.Site → Bool)
         → judgements.items ≡ for_each schema.now (judgement_at purpose refused schema.now)
-        → IfOk result (λ t. by_root purpose refused schema.now depth rows (Some root) ≡ Ok t) }
+        → IfOk result (λ t. Ends schema.now (by_root purpose refused schema.now depth rows (Some root)) (Ok t)) }
     ensures fault { (refused : declared_site.Site → Bool)
         → judgements.items ≡ for_each schema.now (judgement_at purpose refused schema.now)
-        → IfErr result (IsFaultOf (by_root purpose refused schema.now depth rows (Some root))) }
+        → IfErr result (IsEndFault schema.now (by_root purpose refused schema.now depth rows (Some root))) }
     ensures element { IfOk result HasElementLast }
     ensures leaves { IfOk result HasTypedLeaves }
     ensures whole { purpose ≡ Unparsing → IfOk result (λ t. All IsWhole t.primitives) }
@@ -183,17 +328,21 @@ fn compile_root(
     ensures plain { purpose ≡ Unparsing → IfOk result (λ t. HasPlainRows t.rows) }
 {
     sound_elements_have_bounded_primitives();
-    statements_are_for_parsing();
-    hidden_groups_are_within();
+    told_statements_are_within();
     let numbers = Numbers::of(alloc, schema)?;
-    let gathered = gather(alloc, schema, &numbers, purpose, judgements.as_slice())?;
-    let components = ordered(alloc, schema, gathered)?;
-    let tables = tables(alloc, judgements)?;
-    let number = numbers.number(schema, root);
-    match terms_of(alloc, &components, number, depth, rows, tables) {
-        Ok(terms) => Ok(terms),
-        Err(fault) => Err(fault_of(fault)),
-    }
+    let made = lay(
+        alloc,
+        schema,
+        &numbers,
+        purpose,
+        judgements.as_slice(),
+        root,
+        depth,
+        rows,
+    )?;
+    let variables = variables_of(alloc, schema, &numbers)?;
+    let told = tell(alloc, schema, &numbers, variables.as_slice(), judgements)?;
+    finish(alloc, schema, made, told, variables)
 }
 
 // The terms of a schema for a purpose. The patterns of all elements are built, reached or not.

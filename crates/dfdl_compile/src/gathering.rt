@@ -1,5 +1,7 @@
 // The components of a schema's documents.
-ghost use Rattle.std.specs.Prelude.{◌≡◌, ◌+◌, ◌<◌, ◌++◌, ◌∷◌, [], Bool, length, map, All, IfOk, OnOk, IfErr, option_map};
+ghost use Rattle.std.specs.Prelude.{◌≡◌, ◌+◌, ◌<◌, ◌++◌, ◌∷◌, [], Bool, length, map, All, IfOk, OnOk, IfErr, option_map, unwrap_or};
+ghost use Rattle.dfdl_forms.specs.declared.simple.Simple.TheVariants.{UnsignedByte};
+ghost use Rattle.dfdl_checks.specs.Subjects.{simple_of};
 ghost use Rattle.dfdl_components.specs.Recursion.{count_of, number_of};
 ghost use Rattle.dfdl_components.specs.Sites.{IsSite};
 ghost use Rattle.dfdl_chains.specs.Kinds.{kind_at};
@@ -8,20 +10,20 @@ ghost use Rattle.dfdl_breaches.specs.Judging.{judgement_at};
 ghost use Rattle.dfdl_components.specs.declared.site.Site as declared_site;
 ghost use Rattle.dfdl_chains.specs.Everywhere.{all_sites};
 ghost use Rattle.dfdl_compile.specs.Components as spec;
-ghost use Rattle.dfdl_compile.specs.Tests as tests_of;
 ghost use Rattle.dfdl_rows.specs.declared.component.Component.TheVariants.{Sequence};
 ghost use Rattle.dfdl_compile.specs.Delimiters as delimiters;
 ghost use Rattle.dfdl_compile.specs.Primitives.{primitive_by};
 
 use crate::primitives::{is_scanned_by, type_by};
-use crate::testing::{first_behind, tests_by};
+use crate::stating::{before_by, behind_by, calculation_number, first_behind, is_set_first};
 use dfdl_breaches::Judgement;
 use dfdl_chains::{Numbers, declaration, kind_at};
 use dfdl_checks::{Breach, Delimiting, Kind, OtherRepresentations, Purpose};
 use dfdl_components::{Schema, Site};
 use dfdl_constructs::plain;
+use dfdl_forms::Simple;
 use dfdl_rows::{Component, ContentBox, Refusal, Separated};
-use dfdl_terms::{Delimiter, Framing, Prefix, Primitive, Representations, Tests};
+use dfdl_terms::{Delimiter, Framing, Prefix, Primitive, Representations, Statements};
 use dfdl_value::TextValue;
 use std::alloc::{AllocError, Global};
 
@@ -86,14 +88,20 @@ fn delimiter_by(number: u32, delimiter: &Option<Delimiting>) -> Option<Delimiter
     }
 }
 
-// What frames the content of an element of which this is told, which has these tests, and the literals of whose initiator and terminator
-// have these numbers.
-fn framing_by(tests: Tests, initiator: u32, terminator: u32, judgement: &Judgement) -> Framing
-    requires { tests ≡ tests_of.tests_by tests.first judgement.now }
-    ensures { result ≡ delimiters.framing_by tests.first initiator terminator judgement.now }
+// What frames the content of a component of which this is told, before and behind which these statements stand, and the literals of whose
+// initiator and terminator have these numbers.
+fn framing_with(
+    before: Statements,
+    behind: Statements,
+    initiator: u32,
+    terminator: u32,
+    judgement: &Judgement,
+) -> Framing
+    ensures { result ≡ delimiters.framing_with before behind initiator terminator judgement.now }
 {
     Framing {
-        tests,
+        before,
+        behind,
         initiator: delimiter_by(initiator, &judgement.markup.initiator),
         terminator: delimiter_by(terminator, &judgement.markup.terminator),
         ..judgement.framing
@@ -227,9 +235,55 @@ fn component_by(
             occurs,
             is_parsed,
         },
+        Kind::CalculatedElement(_) => Component::SimpleElement {
+            name,
+            simple,
+            prim,
+            framing,
+            prefix,
+            tried,
+            is_scanned,
+            occurs,
+            is_parsed,
+        },
         Kind::Sequence | Kind::HiddenSequence => sequence_by(framing, separated, initiated),
         Kind::Choice => choice_by(purpose, framing, separated, initiated),
         Kind::PrefixNumber(_) => sequence_by(framing, separated, initiated),
+    }
+}
+
+// The type of a value that is calculated, of an element of this kind.
+fn calculated_type(kind: Kind) -> Simple
+    ensures { result ≡ unwrap_or (simple_of kind) UnsignedByte }
+{
+    match kind {
+        Kind::SimpleElement(simple) | Kind::PrefixNumber(simple) => simple,
+        _ => Simple::UnsignedByte,
+    }
+}
+
+// What an element of a kind is for a purpose of which this is told: an element whose value the statement of this number calculates, or an
+// element or a group of its own.
+fn calculated_by(
+    purpose: Purpose,
+    name: TextValue,
+    judgement: &Judgement,
+    numbered: Numbered,
+    statement: u32,
+    kind: Kind,
+) -> Component
+    ensures { result ≡ spec.calculated_by judgement.now.calculation name (unwrap_or (simple_of kind) UnsignedByte) statement numbered.framing
+        (spec.component_by purpose name (primitive_by judgement.now) numbered.prim numbered.framing judgement.now.size numbered.prefix numbered.tried
+        numbered.separated judgement.now.initiates judgement.now.occurs judgement.now.is_parsed kind) }
+{
+    match &judgement.calculation {
+        Some(_) => Component::CalculatedElement {
+            name,
+            simple: calculated_type(kind),
+            statement,
+            framing: numbered.framing,
+        },
+        None => component_by(purpose, name, judgement, numbered, kind),
     }
 }
 
@@ -245,7 +299,8 @@ fn one_list_behind(schema: &Schema, numbers: &Numbers, number: u32) -> Result<u3
     }
 }
 
-// What frames the content of an element of the documents of which this is told, where its first test has this number.
+// What frames the content of an element of the documents of which this is told, where its first statement has this number.
+#[tactic(auto, using(crate::proofs::Fitting::framed))]
 fn framing_of(
     schema: &Schema,
     numbers: &Numbers,
@@ -259,11 +314,13 @@ fn framing_of(
 {
     let initiator = numbers.number(schema, site);
     let terminator = one_list_behind(schema, numbers, initiator)?;
-    let tests = tests_by(first, judgement)?;
-    Ok(framing_by(tests, initiator, terminator, judgement))
+    let is_first = is_set_first(kind_at(schema, numbers, site));
+    let before = before_by(is_first, first, judgement)?;
+    let behind = behind_by(is_first, first, judgement)?;
+    Ok(framing_with(before, behind, initiator, terminator, judgement))
 }
 
-// What an element of the documents of which this is told has by numbers, where its first test has this one.
+// What an element of the documents of which this is told has by numbers, where its first statement has this one.
 fn by_numbers(
     schema: &Schema,
     numbers: &Numbers,
@@ -297,7 +354,7 @@ fn by_numbers(
     })
 }
 
-// What an element of the documents is for a purpose, of which this is told, where its first test has this number.
+// What an element of the documents is for a purpose, of which this is told, where its first statement has this number.
 fn component_with(
     alloc: Global,
     schema: &Schema,
@@ -313,8 +370,9 @@ fn component_with(
 {
     let name = element_name(alloc, schema, site)?;
     let numbered = by_numbers(schema, numbers, first, site, judgement)?;
+    let statement = calculation_number(first, judgement)?;
     let kind = kind_at(schema, numbers, site);
-    let component = component_by(purpose, name, judgement, numbered, kind);
+    let component = calculated_by(purpose, name, judgement, numbered, statement, kind);
     Ok(hiding_by(judgement.hidden, component))
 }
 

@@ -1,8 +1,8 @@
 //! The terms of a schema: its documents' components in rows, from the root on.
 //!
-//! `specs/Components.antt` says which components the elements of the documents are, and `specs/Compiled.antt` what a
-//! schema comes to, which the contracts of `compile` and `compile_for_unparse` cite: its rows, or the first reason why it has none. The chapters
-//! are 'DFDL Schema Component Model' and 'DFDL Data Syntax Grammar'.
+//! `specs/Components.antt` says which components the elements of the documents are, `specs/Compiled.antt` what a schema comes to, its rows or
+//! the first reason why it has none, and `specs/Settling.antt` what its statements come to then, which the contracts of `compile` and
+//! `compile_for_unparse` cite. The chapters are 'DFDL Schema Component Model' and 'DFDL Data Syntax Grammar'.
 #![tactic(auto)]
 
 mod compiling;
@@ -10,7 +10,8 @@ mod fault;
 mod gathering;
 mod parts;
 mod primitives;
-mod testing;
+mod settling;
+mod stating;
 
 pub use compiling::{compile, compile_for_unparse};
 pub use fault::CompileFault;

@@ -4,13 +4,14 @@ ghost use Rattle.std.specs.Prelude.{◌≡◌, [], ◌++◌, All, IfOk, map, unw
 ghost use Rattle.dfdl_checks.specs.Numbers as numbers;
 ghost use Rattle.dfdl_compile.specs.Delimiters as delimiters;
 ghost use Rattle.dfdl_compile.specs.Primitives as spec;
-ghost use Rattle.dfdl_compile.specs.Tests.{all_tests};
+ghost use Rattle.dfdl_written.specs.Noting.{stated_by};
 
 use dfdl_breaches::Judgement;
 use dfdl_checks::{Delimiting, PrefixForm, Separating};
 use dfdl_forms::{BitOrder, ByteOrder, Encoding, IntForm, Literals, Simple};
 use dfdl_terms::row::default_is_written;
-use dfdl_terms::{Delimiters, PatternTest, Primitive, Tables, TextContent, TextSize};
+use dfdl_terms::{Delimiters, Primitive, TextContent, TextSize};
+use dfdl_written::Stated;
 use std::alloc::{AllocError, Global};
 
 // The primitive that stands for an element without one of its own.
@@ -152,7 +153,7 @@ fn separator_list_if(alloc: Global, separator: Option<Separating>) -> Delimiters
 }
 
 // What some elements name: the primitives of their values, and of their prefixes and other representations, and the literals of
-// their delimiters.
+// their delimiters; and what they state.
 #[derive(Drop)]
 struct Lists {
     own: Vec<Primitive>,
@@ -162,7 +163,7 @@ struct Lists {
     initiators: Vec<Delimiters>,
     terminators: Vec<Delimiters>,
     separators: Vec<Delimiters>,
-    tests: Vec<PatternTest>,
+    stated: Vec<Stated>,
 }
 
 impl Lists {
@@ -174,7 +175,7 @@ impl Lists {
         ensures initiators { result.initiators.items ≡ [] }
         ensures terminators { result.terminators.items ≡ [] }
         ensures separators { result.separators.items ≡ [] }
-        ensures tests { result.tests.items ≡ [] }
+        ensures stated { result.stated.items ≡ [] }
     {
         Lists {
             own: Vec::new(alloc),
@@ -184,13 +185,12 @@ impl Lists {
             initiators: Vec::new(alloc),
             terminators: Vec::new(alloc),
             separators: Vec::new(alloc),
-            tests: Vec::new(alloc),
+            stated: Vec::new(alloc),
         }
     }
 }
 
 // Those of elements of which this is told.
-#[tactic(auto, using(crate::proofs::Fitting::tests_pushed))]
 fn lists_of(alloc: Global, judgements: Vec<Judgement>) -> Result<Lists, AllocError>
     ensures own { IfOk result (λ lists. lists.own.items ≡ map spec.primitive_by judgements.items) }
     ensures prefixes { IfOk result (λ lists. lists.prefixes.items ≡ map spec.prefix_primitive_by judgements.items) }
@@ -199,7 +199,7 @@ fn lists_of(alloc: Global, judgements: Vec<Judgement>) -> Result<Lists, AllocErr
     ensures initiators { IfOk result (λ lists. lists.initiators.items ≡ map delimiters.initiator_list_by judgements.items) }
     ensures terminators { IfOk result (λ lists. lists.terminators.items ≡ map delimiters.terminator_list_by judgements.items) }
     ensures separators { IfOk result (λ lists. lists.separators.items ≡ map delimiters.separator_list_by judgements.items) }
-    ensures tests { IfOk result (λ lists. lists.tests.items ≡ all_tests judgements.items) }
+    ensures stated { IfOk result (λ lists. lists.stated.items ≡ map stated_by judgements.items) }
 {
     let mut lists = Lists::new(alloc);
     for judgement in judgements {
@@ -209,6 +209,9 @@ fn lists_of(alloc: Global, judgements: Vec<Judgement>) -> Result<Lists, AllocErr
             prefix,
             others,
             tests,
+            settings,
+            checks,
+            calculation,
             ..
         } = judgement;
         lists.own.push(primitive_or_byte(primitive))?;
@@ -220,23 +223,35 @@ fn lists_of(alloc: Global, judgements: Vec<Judgement>) -> Result<Lists, AllocErr
         lists
             .separators
             .push(separator_list_if(alloc, markup.separator))?;
-        let mut own = tests.into_vec();
-        lists.tests.append(&mut own)?;
+        lists.stated.push(Stated {
+            tests,
+            settings,
+            checks,
+            calculation,
+        })?;
     }
     Ok(lists)
 }
 
+/// What the rows of elements name of which this is told, and what these state.
+#[derive(Drop)]
+pub(crate) struct Naming {
+    pub(crate) primitives: Vec<Primitive>,
+    pub(crate) delimiters: Vec<Delimiters>,
+    pub(crate) stated: Vec<Stated>,
+}
+
 /// What the rows of elements name of which this is told: their primitives, and behind them those of their length prefixes, of their nil
 /// representations and of their empty ones; the literals of their initiators, and behind them those of their terminators and separators;
-/// and their tests.
-pub(crate) fn tables(alloc: Global, judgements: Vec<Judgement>) -> Result<Tables, AllocError>
-    ensures primitives { IfOk result (λ tables. tables.primitives ≡ map spec.primitive_by judgements.items
+/// and what they state.
+pub(crate) fn named(alloc: Global, judgements: Vec<Judgement>) -> Result<Naming, AllocError>
+    ensures primitives { IfOk result (λ named. named.primitives.items ≡ map spec.primitive_by judgements.items
         ++ (map spec.prefix_primitive_by judgements.items
         ++ (map spec.nil_primitive_by judgements.items ++ map spec.empty_primitive_by judgements.items))) }
-    ensures delimiters { IfOk result (λ tables. tables.delimiters ≡ map delimiters.initiator_list_by judgements.items
+    ensures delimiters { IfOk result (λ named. named.delimiters.items ≡ map delimiters.initiator_list_by judgements.items
         ++ (map delimiters.terminator_list_by judgements.items ++ map delimiters.separator_list_by judgements.items)) }
-    ensures tests { IfOk result (λ tables. tables.tests ≡ all_tests judgements.items) }
-    ensures written { IfOk result (λ tables. All spec.HasWrittenText tables.primitives) }
+    ensures stated { IfOk result (λ named. named.stated.items ≡ map stated_by judgements.items) }
+    ensures written { IfOk result (λ named. All spec.HasWrittenText named.primitives.items) }
 {
     let Lists {
         mut own,
@@ -246,7 +261,7 @@ pub(crate) fn tables(alloc: Global, judgements: Vec<Judgement>) -> Result<Tables
         mut initiators,
         mut terminators,
         mut separators,
-        tests,
+        stated,
     } = lists_of(alloc, judgements)?;
     nils.append(&mut empties)?;
     prefixes.append(&mut nils)?;
@@ -254,5 +269,9 @@ pub(crate) fn tables(alloc: Global, judgements: Vec<Judgement>) -> Result<Tables
     terminators.append(&mut separators)?;
     initiators.append(&mut terminators)?;
     texts_are_written(own.as_slice());
-    Ok(Tables::new(own, initiators, tests))
+    Ok(Naming {
+        primitives: own,
+        delimiters: initiators,
+        stated,
+    })
 }

@@ -1,24 +1,32 @@
 -- Where a row is done, the elements that began in it are read.
-use Rattle.std.proofs.Common.{◌≡◌, ℕ, zero, suc, ◌+◌, ◌*◌, ◌/◌, ◌<◌, ◌≤◌, ◌⊎◌, inl, inr, refl, List, [], ◌∷◌, ◌++◌, length, take, Bool, true, false, cond, ◌-◌, nat_eq, nat_lt, Option, Some, None, All, nat_le, ap, sym, subst, ◌∙◌, arith, replicate}
+use Rattle.std.proofs.Common.{◌≡◌, ℕ, zero, suc, ◌+◌, ◌*◌, ◌/◌, ◌<◌, ◌≤◌, ◌⊎◌, inl, inr, refl, List, [], ◌∷◌, ◌++◌, length, take, Bool, true, false, cond, ◌-◌, nat_eq, nat_lt, Option, Some, None, Result, Ok, Err, All, nat_le, ap, sym, subst, ◌∙◌, arith, replicate}
 use Rattle.std.specs.Prelude.{slice_get}
 use Rattle.std.proofs.lemmas.Option.{get_or_from_slice_get, slice_get_within}
 use Rattle.dfdl_bits.specs.declared.window.Seen.{Seen}
-use Rattle.dfdl_report.specs.declared.cause.ParseCause.TheVariants.{LengthOutOfRange}
+use Rattle.dfdl_report.specs.declared.cause.ParseCause.TheVariants.{ExpressionFault, LengthOutOfRange}
 use Rattle.dfdl_report.specs.declared.cause.LimitCause.TheVariants.{Nodes, Text as TextLimit}
 use Rattle.dfdl_forms.specs.declared.simple.Simple.{Simple}
 use Rattle.dfdl_terms.specs.declared.delimiters.Delimiters.{Delimiters}
 use Rattle.dfdl_terms.specs.declared.representations.Representations.{Representations}
 use Rattle.dfdl_value.specs.declared.value.Value.{Value}
+use Rattle.dfdl_value.specs.declared.value.Value.TheVariants as value
+use Rattle.dfdl_expressions.specs.declared.node.Node.{Node as ExpressionNode}
+use Rattle.dfdl_paths.specs.declared.place.Start.{Start}
+use Rattle.dfdl_paths.specs.declared.place.Start.TheVariants.{At, Inside}
+use Rattle.dfdl_surroundings.specs.Taking.{taken}
 use Rattle.dfdl_terms.specs.declared.row.Primitive.{Primitive}
 use Rattle.dfdl_terms.specs.declared.row.Row.{Row}
-use Rattle.dfdl_terms.specs.declared.row.Row.TheVariants.{Leaf, Elem, Group, Skip, Align, Initiator, Terminator, Separator, Scope, Boxed, PrefixedLeaf, PrefixedBox, Repeat, Optional, Choice as ChoiceRow, Test, Hidden, Separated}
-use Rattle.dfdl_terms.specs.Leaves.{ReadsBy, leaf as by_leaf, prefixed as by_prefix, grouped, scoped as scoped_reads}
+use Rattle.dfdl_terms.specs.declared.row.Row.TheVariants.{Leaf, Elem, Group, Skip, Align, Initiator, Terminator, Separator, Scope, Boxed, PrefixedLeaf, PrefixedBox, Repeat, Optional, Choice as ChoiceRow, Statement, Concluded, Hidden, Separated}
+use Rattle.dfdl_terms.specs.Leaves.{ReadsBy, leaf as by_leaf, prefixed as by_prefix, grouped, scoped as scoped_reads, calculated as calculated_reads}
 use Rattle.dfdl_terms.specs.Rows.{AreWithin, IsWithin, NamesWithin, Nests, Table, named_by}
 use Rattle.dfdl_region.specs.declared.node.Content.{Content}
 use Rattle.dfdl_region.specs.declared.node.Content.TheVariants.{Begun, Complex}
 use Rattle.dfdl_region.specs.declared.node.Content.TheVariants as content
 use Rattle.dfdl_separators.specs.declared.policy.SeparatorSuppressionPolicy.{SeparatorSuppressionPolicy}
 use Rattle.dfdl_terms.specs.declared.slots.Slot.{Slot}
+use Rattle.dfdl_terms.specs.declared.statement.Statement.{Statement as AnyStatement}
+use Rattle.dfdl_terms.specs.declared.statement.Statement.TheVariants.{Calculation}
+use Rattle.dfdl_terms.specs.declared.statement.Statements.{Statements}
 use Rattle.dfdl_terms.specs.declared.text.TextSize.{TextSize}
 use Rattle.dfdl_region.specs.Nodes.{with_content}
 use Rattle.dfdl_looks.specs.Asks.{Ask, Reached, Told, TooFar, Missing, ask}
@@ -26,13 +34,14 @@ use Rattle.dfdl_looks.specs.Looks.{seen_in}
 use Rattle.dfdl_looks.specs.Tallies.{needs_from, nothing, one_row}
 use Rattle.dfdl_grammar.specs.declared.end.End.{End}
 use Rattle.dfdl_grammar.specs.declared.end.End.TheVariants.{Done, Failed, Stopped}
+use Rattle.dfdl_grammar.specs.declared.end.Halt.TheVariants.{Limit}
 use Rattle.dfdl_grammar.specs.declared.instead.Instead.{Instead}
 use Rattle.dfdl_grammar.specs.declared.mark.Mark.{Mark}
 use Rattle.dfdl_grammar.specs.declared.instead.Instead.TheVariants.{Nothing, Nil, Empty}
 use Rattle.dfdl_grammar.specs.States.{Input, State, anchor, anchor_at}
 use Rattle.dfdl_grammar.specs.Documents.{front_at}
 use Rattle.dfdl_grammar.specs.Outcomes.{Outcome, ended, follow, spend, then_do}
-use Rattle.dfdl_grammar.specs.Leaves.{Find, Fails, Finds, FindsOctets, FindsText, content_begins, has_room, land, leaf, nil_values, program_for, read_by, reading_prim, values_in}
+use Rattle.dfdl_grammar.specs.Leaves.{Find, Fails, Finds, FindsOctets, FindsText, content_begins, default_find, has_room, land, leaf, nil_values, program_for, read_by, reading_prim, values_in}
 use Rattle.dfdl_grammar.specs.Framing.{aligned, fill_to, has_byte, passed}
 use Rattle.dfdl_grammar.specs.Delimiters.{closes_to, lists_of, markup, opens, scoped, unscoped}
 use Rattle.dfdl_grammar.specs.Boxes.{boxed, boxed_at, bytes_up_to, pass_bytes, past_byte, rest as rest_of, unboxed}
@@ -40,10 +49,11 @@ use Rattle.dfdl_grammar.specs.Choices.{choice}
 use Rattle.dfdl_grammar.specs.Occurrences.{occurrences}
 use Rattle.dfdl_grammar.specs.Slots.{Sequence, separated}
 use Rattle.dfdl_grammar.specs.Elements.{attempted, begun, close, element, left}
+use Rattle.dfdl_grammar.specs.Statements.{calculated, concluded, evaluated, is_written, start_of, statement_of, told_at, with_reads}
 use Rattle.dfdl_grammar.specs.Prefixes.{bits_of_units, leaf_of, prefixed, prefixed_leaf, resized, size_of, sized_leaf}
 use Rattle.dfdl_grammar.specs.Rows.{below, group, meaning, row, row_at}
-use Rattle.dfdl_grammar.specs.Trees.{AreRead, HasLeaves, IsInTables}
-use Rattle.dfdl_grammar.proofs.Fine.{Fills, Fine, IsRead, Reads, aside, both, closed_fine, element-ends, fine, moved, put_read, read_as, read_before, read_behind, same_or, unmarked, as_marked}
+use Rattle.dfdl_grammar.specs.Trees.{AreRead, HasLeaves, IsCalculation, IsInTables}
+use Rattle.dfdl_grammar.proofs.Fine.{Fills, Fine, IsRead, Reads, aside, both, closed_fine, element-ends, fine, moved, put_read, as_told, read_before, read_behind, same_or, unmarked, as_marked}
 use Rattle.dfdl_grammar.proofs.Towers.{below-meaning}
 use Rattle.dfdl_grammar.proofs.Found.{value-for, whole-told}
 use Rattle.dfdl_grammar.proofs.Going.{below-goes, tried-returns, tried-stays}
@@ -52,7 +62,7 @@ use Rattle.dfdl_grammar.proofs.Prefixed.{prefixed-comes}
 use Rattle.dfdl_grammar.proofs.Carried.{Carried, Carries}
 use Rattle.dfdl_grammar.proofs.Pointed.{choice-carried, occurrences-carried}
 use Rattle.dfdl_grammar.proofs.Slotted.{separated-carried}
-use Rattle.dfdl_grammar.proofs.Tested.{test-comes}
+use Rattle.dfdl_grammar.proofs.Stated.{Tells, concluded-comes, statement-comes}
 use Rattle.dfdl_grammar.proofs.Represented.{IsOk, again_at, represented-comes}
 use Rattle.dfdl_grammar.proofs.Sought.{initiator-comes, separator-comes, terminator-comes}
 
@@ -103,12 +113,12 @@ module _ (input : Input) (table : Table) (leaves : HasLeaves table) where
         at = end;
         text = s.text ++ bytes;
         nodes = with_content s.nodes s.inside (made (length s.text) (length bytes));
-      })) (ended (Stopped TextLimit input.limits.text) s)).end ≡ Done
+      })) (ended (Stopped (Limit TextLimit) input.limits.text) s)).end ≡ Done
       → IsRead s (cond room (ended Done (record s {
         at = end;
         text = s.text ++ bytes;
         nodes = with_content s.nodes s.inside (made (length s.text) (length bytes));
-      })) (ended (Stopped TextLimit input.limits.text) s)).state
+      })) (ended (Stopped (Limit TextLimit) input.limits.text) s)).state
   hold-reads made bytes end s read true done =
       put_read s end (s.text ++ bytes) (made (length s.text) (length bytes)) (read (length s.text) (length bytes))
   hold-reads made bytes end s read false done = absurd (cc)
@@ -221,8 +231,8 @@ module _ (input : Input) (table : Table) (leaves : HasLeaves table) where
   follow-done (Stopped cause quantity) o next is done = absurd (cc)
 
   room-complex : (id : ℕ) (body : State → Outcome) → Fills body → (instead : Instead) (s : State) (room : Bool)
-      → (cond room (let o : Outcome = body (begun id instead s) in close o.end s.inside true o) (ended (Stopped Nodes input.limits.nodes) s)).end ≡ Done
-      → Fine s (cond room (let o : Outcome = body (begun id instead s) in close o.end s.inside true o) (ended (Stopped Nodes input.limits.nodes) s)).state
+      → (cond room (let o : Outcome = body (begun id instead s) in close o.end s.inside true o) (ended (Stopped (Limit Nodes) input.limits.nodes) s)).end ≡ Done
+      → Fine s (cond room (let o : Outcome = body (begun id instead s) in close o.end s.inside true o) (ended (Stopped (Limit Nodes) input.limits.nodes) s)).state
   room-complex id body fills instead s true done =
       let first : State = begun id instead s in
       let o : Outcome = body first in
@@ -235,8 +245,8 @@ module _ (input : Input) (table : Table) (leaves : HasLeaves table) where
   room-complex id body fills instead s false done = absurd (cc)
 
   room-simple : (id : ℕ) (body : State → Outcome) → ReadsKnown body → (instead : Instead) → IsKnown instead → (s : State) (room : Bool)
-      → (cond room (let o : Outcome = body (begun id instead s) in close o.end s.inside false o) (ended (Stopped Nodes input.limits.nodes) s)).end ≡ Done
-      → Fine s (cond room (let o : Outcome = body (begun id instead s) in close o.end s.inside false o) (ended (Stopped Nodes input.limits.nodes) s)).state
+      → (cond room (let o : Outcome = body (begun id instead s) in close o.end s.inside false o) (ended (Stopped (Limit Nodes) input.limits.nodes) s)).end ≡ Done
+      → Fine s (cond room (let o : Outcome = body (begun id instead s) in close o.end s.inside false o) (ended (Stopped (Limit Nodes) input.limits.nodes) s)).state
   room-simple id body reads instead known s true done =
       let first : State = begun id instead s in
       let o : Outcome = body first in
@@ -245,6 +255,50 @@ module _ (input : Input) (table : Table) (leaves : HasLeaves table) where
       subst (λ (t : State). Fine s t) (sym ends) (element-ends id instead s o.state (left s.inside false o.state) (reads first known over) refl refl)
   room-simple id body reads instead known s false done = absurd (cc)
 
+  -- a value that stands for the open element's
+  default-reads : (v : Value) (t : State) → (land input.limits t.at (Told (default_find t.at v)) t).end ≡ Done
+      → IsRead t (land input.limits t.at (Told (default_find t.at v)) t).state
+  default-reads (value.Int z) t done = put_read t t.at t.text (content.Signed z) (λ same. absurd (cc))
+  default-reads (value.Uns n) t done = put_read t t.at t.text (content.Unsigned n) (λ same. absurd (cc))
+  default-reads (value.Dec d) t done = put_read t t.at t.text (content.Decimal d) (λ same. absurd (cc))
+  default-reads (value.Text text) t done =
+      hold-reads content.Text text t.at t (λ from len same. absurd (cc)) (nat_le (length t.text + length text) input.limits.text) done
+  default-reads (value.Truth truth) t done = put_read t t.at t.text (content.Truth truth) (λ same. absurd (cc))
+  default-reads (value.Bytes bytes) t done =
+      hold-reads content.Octets bytes t.at t (λ from len same. absurd (cc)) (nat_le (length t.text + length bytes) input.limits.text) done
+
+  written-reads : (v : Value) (t : State) (written : Bool)
+      → (cond written (land input.limits t.at (Told (default_find t.at v)) t) (ended (Failed (ExpressionFault 6) t.at) t)).end ≡ Done
+      → IsRead t (cond written (land input.limits t.at (Told (default_find t.at v)) t) (ended (Failed (ExpressionFault 6) t.at) t)).state
+  written-reads v t true done = default-reads v t done
+  written-reads v t false done = absurd (cc)
+
+  calculated-reads : (told : Result Value ℕ) → Reads (calculated input.limits told)
+  calculated-reads (Ok v) t done = written-reads v t (is_written v) done
+  calculated-reads (Err cause) t done = absurd (cc)
+
+  -- statements
+  filling-tells : (s : State) → Tells input.limits (λ (t : State). Fine s t) (λ (e : End) (t : State). e ≡ Done → Fine s t)
+  filling-tells s = record {
+    again = λ t marks kept first same goes. as_told s t t.instead marks kept first;
+    lands = λ t v first written done.
+        both s t (land input.limits t.at (Told (default_find t.at v)) t).state first (default-reads v t done).fine;
+    done = λ t first. first refl;
+    ends = λ e t first over. first;
+  }
+
+  told-fills : (start : Start) (s : State) (e : End) (t : State) → (e ≡ Done → Fine s t) → e ≡ Done → Fine s (told_at e start t)
+  told-fills start s Done t first over = first over
+  told-fills start s (Failed cause bit) t first over = absurd (cc)
+  told-fills start s (Stopped cause quantity) t first over = absurd (cc)
+
+  concluded-fills : (start : Start) (behind : Statements) (s : State) (o : Outcome) → (o.end ≡ Done → Fine s o.state)
+      → (concluded input.limits table start behind o).end ≡ Done → Fine s (concluded input.limits table start behind o).state
+  concluded-fills start behind s o first =
+      concluded-comes input.limits (λ (t : State). Fine s t) (λ (e : End) (t : State). e ≡ Done → Fine s t) (filling-tells s) table
+      (λ (e : End) (t : State). e ≡ Done → Fine s t) (λ t there. there refl) start (told-fills start s)
+      (λ cause bit t marks kept there same goes over. absurd (cc)) behind o first
+
   -- an element, where each of its representations fills what begins in it
   element-fills : (id : ℕ) (complex : Bool) (tried : Representations) (body : State → Outcome) → Goes body
       → ((instead : Instead) → IsKnown instead → Fills (attempted input id complex body instead)) → IsOk IsKnown Nil tried.nil → IsOk IsKnown Empty tried.empty
@@ -252,9 +306,9 @@ module _ (input : Input) (table : Table) (leaves : HasLeaves table) where
   element-fills id complex tried body goes fills nil_is empty_is s =
       represented-comes (λ (e : End) (t : State). e ≡ Done → Fine s t) (λ (instead : Instead) (e : End) (t : State). e ≡ Done → Fine s t) s
       (attempted input id complex body) IsKnown tt (fills Nothing tt s)
-      (λ instead before marks same known done.
-      unmarked s (attempted input id complex body instead (again_at s before marks)).state before marks
-      (fills instead known (again_at s before marks) done))
+      (λ instead before marks kept same is known done.
+      unmarked s (attempted input id complex body instead (again_at s before marks kept)).state before marks kept
+      (fills instead known (again_at s before marks kept) done))
       (λ instead t over done. closed_fine s t (over done)) (λ cause bit t over done. absurd (cc)) (λ instead cause quantity t over. over)
       (λ instead t over failed. absurd (cc)) (tried-stays input id complex body goes s) (tried-returns input id complex body goes s) tried nil_is empty_is
 
@@ -269,8 +323,7 @@ module _ (input : Input) (table : Table) (leaves : HasLeaves table) where
     filling : Carries FineBy EndsBy
     filling = record {
       moves = λ marks t at first. both s t (record t { at = at }) first (moved t at t.stop);
-      again = λ marks others t instead first is same. as_marked s (record t { instead = instead }) others
-          (both s t (record t { instead = instead }) first (read_as t instead));
+      again = λ marks others t instead kept first is same goes. as_told s t instead others kept first;
       opens = λ marks t mark first. as_marked s t (mark ∷ t.marks) first;
       closes = λ marks t mark first. closed_fine s t first;
       ends = λ marks e t first done. first;
@@ -402,7 +455,8 @@ module _ (input : Input) (table : Table) (leaves : HasLeaves table) where
         below-meaning input table n id s less ∙ ap (λ (r : Option Row). spend one_row (row input table (below input table id) id r s)) is
 
     -- a row that reads a value
-    reads-below : (n : ℕ) → FillBelow n → (id : ℕ) → id < n → ReadsBy table.rows (IsInTables table) id → ReadsKnown (below input table n id)
+    reads-below : (n : ℕ) → FillBelow n → (id : ℕ) → id < n → ReadsBy table.rows (IsInTables table) (IsCalculation table) id
+        → ReadsKnown (below input table n id)
     reads-below n fills _ less (by_leaf id prim row_is prim_is) s known done =
         let nil : Option (List Value) = nil_values table.primitives s.instead in
         let there = used_is s.instead prim known prim_is in
@@ -432,33 +486,48 @@ module _ (input : Input) (table : Table) (leaves : HasLeaves table) where
         let few : FillBelow id = λ m most. fills m (omega arith) in
         subst (λ (o : Outcome). IsRead s o.state) (sym same)
         (scoped-reads list (below input table id body) (reads-below id few body lower inner) s known (ap (λ (o : Outcome). o.end) (sym same) ∙ done))
+    reads-below n fills _ less (calculated_reads id number row_is calculation) s known done =
+        let expression : List ExpressionNode = calculation.0.expression in
+        let start : Start = start_of (Some (Calculation calculation.0)) s in
+        let first : State = with_reads table start expression s in
+        let told : Result Value ℕ = taken calculation.0.kind (evaluated table start expression s) in
+        let same : below input table n id s ≡ spend one_row (calculated input.limits told first) =
+        row-below n id (Some (Statement number)) less row_is s
+        ∙ ap (λ (found : Option AnyStatement). spend one_row (statement_of input table number found s)) calculation.1 in
+        subst (λ (o : Outcome). IsRead s o.state) (sym same)
+        (read_behind s first (calculated input.limits told first).state (as_told s s s.instead s.marks first.variables (fine s))
+        (calculated-reads told first (ap (λ (o : Outcome). o.end) (sym same) ∙ done)))
 
     -- the representations of an element are read by primitives of the tables
-    tried-within : (id : ℕ) (name : List ℕ) (simple : Option Simple) (tried : Representations) (body : ℕ)
-        → slice_get table.rows id ≡ Some (Elem name simple tried body) → AreWithin (length table.primitives) tried
-    tried-within id name simple tried body is =
-        let this : Row = Elem name simple tried body in
-        subst (λ (r : Row). NamesWithin (named_by table) r) (get_or_from_slice_get table.rows id this this is)
-        (named id this (slice_get_within table.rows id this is))
+    tried-within : (id : ℕ) (name : List ℕ) (simple : Option Simple) (tried : Representations) (behind : Statements) (body : ℕ)
+        → slice_get table.rows id ≡ Some (Elem name simple tried behind body) → AreWithin (length table.primitives) tried
+    tried-within id name simple tried behind body is =
+        let this : Row = Elem name simple tried behind body in
+        (subst (λ (r : Row). NamesWithin (named_by table) r) (get_or_from_slice_get table.rows id this this is)
+        (named id this (slice_get_within table.rows id this is))).0
 
     row-fills : (id : ℕ) → FillBelow id → (r : Option Row) → slice_get table.rows id ≡ r → Fills (row input table (below input table id) id r)
     row-fills id fills None is s done = fine s
     row-fills id fills (Some (Leaf prim)) is s done =
         leaf-fills table.delimiters (nil_values table.primitives s.instead) (slice_get table.primitives (read_by table.primitives s.instead prim)) s done
-    row-fills id fills (Some (Elem name None tried body)) is s done =
-        let within : AreWithin (length table.primitives) tried = tried-within id name None tried body is in
-        element-fills id true tried (below input table id body) (below-goes input table id body)
+    row-fills id fills (Some (Elem name None tried behind body)) is s done =
+        let within : AreWithin (length table.primitives) tried = tried-within id name None tried behind body is in
+        let o : Outcome = element input id true tried (below input table id body) s in
+        concluded-fills (At (length s.nodes)) behind s o
+        (element-fills id true tried (below input table id body) (below-goes input table id body)
         (λ instead known t over. room-complex id (below input table id body) (fills id (omega arith) body) instead t
         (nat_lt (length t.nodes) input.limits.nodes) over)
-        (nil_within tried.nil within.0) (empty_within tried.empty within.1) s done
-    row-fills id fills (Some (Elem name (Some simple) tried body)) is s done =
-        let this : Row = Elem name (Some simple) tried body in
+        (nil_within tried.nil within.0) (empty_within tried.empty within.1) s) done
+    row-fills id fills (Some (Elem name (Some simple) tried behind body)) is s done =
+        let this : Row = Elem name (Some simple) tried behind body in
         let less : body < id = nests id this (slice_get_within table.rows id this is) is in
-        let within : AreWithin (length table.primitives) tried = tried-within id name (Some simple) tried body is in
-        element-fills id false tried (below input table id body) (below-goes input table id body)
-        (λ instead known t over. room-simple id (below input table id body) (reads-below id fills body less (leaves id name simple tried body is))
+        let within : AreWithin (length table.primitives) tried = tried-within id name (Some simple) tried behind body is in
+        let o : Outcome = element input id false tried (below input table id body) s in
+        concluded-fills (At (length s.nodes)) behind s o
+        (element-fills id false tried (below input table id body) (below-goes input table id body)
+        (λ instead known t over. room-simple id (below input table id body) (reads-below id fills body less (leaves id name simple tried behind body is))
         instead known t (nat_lt (length t.nodes) input.limits.nodes) over)
-        (nil_within tried.nil within.0) (empty_within tried.empty within.1) s done
+        (nil_within tried.nil within.0) (empty_within tried.empty within.1) s) done
     row-fills id fills (Some (Group children)) is s done = group-fills (below input table id) (λ i. fills id (omega arith) i) children s done
     row-fills id fills (Some (Skip bits)) is s done = pass-fills (s.at + bits) s (nat_le (s.at + bits) s.at) (nat_le (s.at + bits) s.stop) done
     row-fills id fills (Some (Align bits)) is s done = pass-fills (aligned bits s.at) s (nat_le (aligned bits s.at) s.at) (nat_le (aligned bits s.at) s.stop) done
@@ -491,9 +560,10 @@ module _ (input : Input) (table : Table) (leaves : HasLeaves table) where
         occurrences-fill (below input table id body) (fills id (omega arith) body) (below-goes input table id body) initiated most s done
     row-fills id fills (Some (ChoiceRow branches initiated)) is s done =
         choice-fills (below input table id) (λ i. fills id (omega arith) i) (below-goes input table id) initiated branches s done
-    row-fills id fills (Some (Test number)) is s done =
-        test-comes (λ (e : End) (t : State). e ≡ Done → Fine s t) s (λ marks same over. as_marked s s marks (fine s)) (λ cause over. absurd (cc))
-        (λ cause quantity over. absurd (cc)) input table.tests number done
+    row-fills id fills (Some (Statement number)) is s done =
+        statement-comes input (λ (t : State). Fine s t) (λ (e : End) (t : State). e ≡ Done → Fine s t) (filling-tells s) table number s (fine s) done
+    row-fills id fills (Some (Concluded behind body)) is s done =
+        concluded-fills (Inside s.inside) behind s (below input table id body s) (fills id (omega arith) body s) done
     row-fills id fills (Some (Hidden body)) is s done = fills id (omega arith) body s done
     row-fills id fills (Some (Separated policy position initiated slots)) is s done =
         let sequence : Sequence =
@@ -527,7 +597,8 @@ module _ (input : Input) (table : Table) (leaves : HasLeaves table) where
     all-fill zero (suc n) few id s done = absurd (omega arith)
     all-fill (suc most) n few id s done = more-fill most n id few (all-fill most) (same_or n (suc most)) s done
 
-    pub all-read : (id start : ℕ) → (meaning input table id (front_at start)).end ≡ Done → AreRead (meaning input table id (front_at start)).state.nodes
+    pub all-read : (id start : ℕ) → (meaning input table id (front_at table start)).end ≡ Done
+        → AreRead (meaning input table id (front_at table start)).state.nodes
     unfolding meaning
     all-read id start done at node is =
-        (row-fills id (all-fill id) (slice_get table.rows id) refl (front_at start) done).fresh at node (omega arith) is
+        (row-fills id (all-fill id) (slice_get table.rows id) refl (front_at table start) done).fresh at node (omega arith) is

@@ -2,6 +2,7 @@
 use Rattle.std.proofs.Common.{◌≡◌, ℕ, zero, suc, ◌+◌, ◌<◌, ◌≤◌, ◌⊎◌, inl, inr, refl, List, [], ◌∷◌, ◌++◌, length, Some, ap, sym, subst, ◌∙◌, arith, length-append}
 use Rattle.std.specs.Prelude.{slice_get}
 use Rattle.std.proofs.lemmas.Option.{slice_get_within}
+use Rattle.dfdl_vars.specs.Kept.{Kept}
 use Rattle.dfdl_region.specs.declared.node.Node.{Node}
 use Rattle.dfdl_region.specs.declared.node.Content.{Content}
 use Rattle.dfdl_region.specs.declared.node.Content.TheVariants.{Begun}
@@ -137,8 +138,9 @@ pub moved : (s : State) (to stop : ℕ) → Fine s (record s { at = to; stop = s
 moved s to stop = aside s to stop s.hidden s.lists
 
 -- the same where other marks are open, and where one is closed
-pub unmarked : (s t : State) (before : Instead) (marks : List Mark) → Fine (record s { instead = before; marks = marks }) t → Fine s t
-unmarked s t before marks same = record { inside = same.inside; longer = same.longer; fresh = same.fresh; kept = same.kept }
+pub unmarked : (s t : State) (before : Instead) (marks : List Mark) (kept : Kept) → Fine (record s { instead = before; marks = marks; variables = kept }) t
+    → Fine s t
+unmarked s t before marks kept same = record { inside = same.inside; longer = same.longer; fresh = same.fresh; kept = same.kept }
 
 pub as_marked : (s t : State) (marks : List Mark) → Fine s t → Fine s (record t { marks = marks })
 as_marked s t marks same = record { inside = same.inside; longer = same.longer; fresh = same.fresh; kept = same.kept }
@@ -146,9 +148,10 @@ as_marked s t marks same = record { inside = same.inside; longer = same.longer; 
 pub closed_fine : (s t : State) → Fine s t → Fine s (closed t)
 closed_fine s t same = record { inside = same.inside; longer = same.longer; fresh = same.fresh; kept = same.kept }
 
--- what content is read by changes no element
-pub read_as : (s : State) (instead : Instead) → Fine s (record s { instead = instead })
-read_as s instead = let same = fine s in record { inside = refl; longer = same.longer; fresh = same.fresh; kept = same.kept }
+-- what content is read by changes no element, and neither do marks and variables
+pub as_told : (s t : State) (instead : Instead) (marks : List Mark) (kept : Kept) → Fine s t
+    → Fine s (record t { instead = instead; marks = marks; variables = kept })
+as_told s t instead marks kept same = record { inside = same.inside; longer = same.longer; fresh = same.fresh; kept = same.kept }
 
 front_at : (nodes : List Node) (last : Node) (at : ℕ) (node : Node) → at < length nodes → slice_get (nodes ++ last ∷ []) at ≡ Some node → slice_get nodes at ≡ Some node
 front_at [] last at node few is = absurd (omega arith)

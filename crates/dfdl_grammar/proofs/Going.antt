@@ -10,11 +10,15 @@ use Rattle.dfdl_terms.specs.declared.representations.Representations.{Representa
 use Rattle.dfdl_value.specs.declared.value.Value.{Value}
 use Rattle.dfdl_terms.specs.declared.row.Primitive.{Primitive}
 use Rattle.dfdl_terms.specs.declared.row.Row.{Row}
-use Rattle.dfdl_terms.specs.declared.row.Row.TheVariants.{Leaf, Elem, Group, Skip, Align, Initiator, Terminator, Separator, Scope, Boxed, PrefixedLeaf, PrefixedBox, Repeat, Optional, Choice as ChoiceRow, Test, Hidden, Separated}
+use Rattle.dfdl_terms.specs.declared.row.Row.TheVariants.{Leaf, Elem, Group, Skip, Align, Initiator, Terminator, Separator, Scope, Boxed, PrefixedLeaf, PrefixedBox, Repeat, Optional, Choice as ChoiceRow, Statement, Concluded, Hidden, Separated}
 use Rattle.dfdl_separators.specs.declared.policy.SeparatorSuppressionPolicy.{SeparatorSuppressionPolicy}
 use Rattle.dfdl_terms.specs.declared.slots.Slot.{Slot}
+use Rattle.dfdl_terms.specs.declared.statement.Statements.{Statements}
 use Rattle.dfdl_terms.specs.declared.text.TextSize.{TextSize}
 use Rattle.dfdl_terms.specs.Rows.{Table}
+use Rattle.dfdl_paths.specs.declared.place.Start.{Start}
+use Rattle.dfdl_paths.specs.declared.place.Start.TheVariants.{At, Inside}
+use Rattle.dfdl_vars.specs.Kept.{Kept}
 use Rattle.dfdl_region.specs.declared.node.Node.{Node}
 use Rattle.dfdl_region.specs.declared.node.Content.{Content}
 use Rattle.dfdl_region.specs.declared.node.Content.TheVariants.{Begun, Complex, Text, Octets}
@@ -24,13 +28,14 @@ use Rattle.dfdl_looks.specs.Looks.{seen_in}
 use Rattle.dfdl_looks.specs.Tallies.{needs_from, nothing}
 use Rattle.dfdl_grammar.specs.declared.end.End.{End}
 use Rattle.dfdl_grammar.specs.declared.end.End.TheVariants.{Done, Failed, Stopped}
+use Rattle.dfdl_grammar.specs.declared.end.Halt.TheVariants.{Limit}
 use Rattle.dfdl_grammar.specs.declared.instead.Instead.{Instead}
 use Rattle.dfdl_grammar.specs.declared.instead.Instead.TheVariants.{Nothing, Nil, Empty}
 use Rattle.dfdl_grammar.specs.declared.mark.Mark.{Mark}
 use Rattle.dfdl_grammar.specs.States.{Input, State, anchor, anchor_at}
 use Rattle.dfdl_grammar.specs.Outcomes.{Outcome, ended, follow, spend, then_do}
 use Rattle.dfdl_grammar.specs.Marks.{closed, mark_at, marked}
-use Rattle.dfdl_grammar.specs.Leaves.{Find, Fails, Finds, FindsOctets, FindsText, content_begins, has_room, land, leaf, nil_values, program_for, read_by}
+use Rattle.dfdl_grammar.specs.Leaves.{Find, Fails, Finds, FindsOctets, FindsText, content_begins, default_find, has_room, land, leaf, nil_values, program_for, read_by}
 use Rattle.dfdl_grammar.specs.Framing.{aligned, fill_to, has_byte, passed}
 use Rattle.dfdl_grammar.specs.Delimiters.{closes_to, lists_of, markup, opens, scoped, unscoped}
 use Rattle.dfdl_grammar.specs.Boxes.{boxed, boxed_at, bytes_up_to, pass_bytes, past_byte, rest as rest_of, unboxed}
@@ -38,6 +43,7 @@ use Rattle.dfdl_grammar.specs.Choices.{choice}
 use Rattle.dfdl_grammar.specs.Occurrences.{occurrences}
 use Rattle.dfdl_grammar.specs.Slots.{Sequence, separated}
 use Rattle.dfdl_grammar.specs.Elements.{attempted, begun, close, element, has_elements, left}
+use Rattle.dfdl_grammar.specs.Statements.{concluded, told_at}
 use Rattle.dfdl_grammar.specs.Prefixes.{bits_of_units, leaf_of, prefixed, resized, size_of, sized_leaf}
 use Rattle.dfdl_grammar.specs.Rows.{below, group, meaning, row, row_at}
 use Rattle.dfdl_grammar.proofs.Prefixed.{prefixed-comes}
@@ -45,10 +51,11 @@ use Rattle.dfdl_grammar.proofs.Pointed.{choice-carried, occurrences-carried}
 use Rattle.dfdl_grammar.proofs.Represented.{AreMarked, GoesBack, again_at, any_ok, marked_by, refused, represented-comes}
 use Rattle.dfdl_grammar.proofs.Resolved.{outer_same}
 use Rattle.dfdl_grammar.proofs.Gone.{EndsBy, GoneBy, going, going-carried}
-use Rattle.dfdl_grammar.proofs.Tested.{test-comes}
+use Rattle.dfdl_grammar.proofs.Stated.{Restates, Tells, concluded-comes, statement-comes}
+use Rattle.dfdl_grammar.proofs.Ways.{IsBack, IsWay, back_goes, goes_same, goes_twice}
 use Rattle.dfdl_grammar.proofs.Slotted.{separated-carried}
 use Rattle.dfdl_grammar.proofs.Sought.{initiator-comes, separator-comes, terminator-comes}
-use Rattle.dfdl_grammar.proofs.Grown.{any_one, begun-longer, behind, content-length, content_twice, failed_returns, front_same, grown, grown_twice, is_nothing, moved, moved_as, other_same, still, twice, unmarked_went, went_as, Ends, Goes, Grown, Went}
+use Rattle.dfdl_grammar.proofs.Grown.{any_one, begun-longer, behind, content-length, content_twice, failed_returns, front_same, grown, grown_twice, is_nothing, kept_at, moved, moved_as, other_same, still, twice, unmarked_went, went_as, went_kept, Ends, Goes, Grown, Went}
 
 module _ (input : Input) where
   put : (s : State) (at : ℕ) (bytes : List ℕ) (content : Content)
@@ -61,6 +68,7 @@ module _ (input : Input) where
           kept = λ other i few. ap (λ (ns : List Node). slice_get ns i) (content_twice s.nodes s.inside content other);
           more = bytes;
           text = refl;
+          ways = goes_same s.variables;
         };
         ends = record { marks = refl; inside = refl; instead = inl refl; lists = refl; hidden = refl };
       }
@@ -74,6 +82,7 @@ module _ (input : Input) where
           kept = λ other i few. ap (λ (ns : List Node). slice_get ns i) (content_twice s.nodes s.inside content other);
           more = [];
           text = sym (append-nil s.text);
+          ways = goes_same s.variables;
         };
         ends = record { marks = refl; inside = refl; instead = inl refl; lists = refl; hidden = refl };
       }
@@ -83,9 +92,9 @@ module _ (input : Input) where
         at = end;
         text = s.text ++ bytes;
         nodes = with_content s.nodes s.inside (made (length s.text) (length bytes));
-      })) (ended (Stopped TextLimit input.limits.text) s) in Went s.inside s o.end o.state)
+      })) (ended (Stopped (Limit TextLimit) input.limits.text) s) in Went s.inside s o.end o.state)
   hold-goes made bytes end s true = put s end bytes (made (length s.text) (length bytes))
-  hold-goes made bytes end s false = still s.inside (Stopped TextLimit input.limits.text) s
+  hold-goes made bytes end s false = still s.inside (Stopped (Limit TextLimit) input.limits.text) s
 
   land-goes : (first : ℕ) (reached : Reached Find) → Goes (land input.limits first reached)
   land-goes first (Told (Fails cause)) s = still s.inside (land input.limits first (Told (Fails cause)) s).end s
@@ -170,8 +179,8 @@ module _ (input : Input) where
 
   -- the same elements and bytes of values, where all else is another
   grown_alike : (one : ℕ) (s t from to : State) → Grown one from to → s.nodes ≡ from.nodes → s.text ≡ from.text → t.nodes ≡ to.nodes → t.text ≡ to.text
-      → Grown one s t
-  grown_alike one s t from to grown nodes text new_nodes new_text =
+      → s.variables ≡ from.variables → t.variables ≡ to.variables → Grown one s t
+  grown_alike one s t from to grown nodes text new_nodes new_text variables new_variables =
       let sizes = ap (λ (ns : List Node). length ns) nodes in
       let new_sizes = ap (λ (ns : List Node). length ns) new_nodes in
       let longer = grown.longer in
@@ -182,6 +191,8 @@ module _ (input : Input) where
             ap of new_nodes ∙ (grown.kept content at (omega arith) ∙ ap of (sym nodes));
         more = grown.more;
         text = new_text ∙ (grown.text ∙ ap (λ (bytes : List ℕ). bytes ++ grown.more) (sym text));
+        ways = λ base way. subst (λ (k : Kept). IsWay base k) (sym new_variables)
+            (grown.ways base (subst (λ (k : Kept). IsWay base k) variables way));
       }
 
   -- behind a box that ends at another bit
@@ -191,19 +202,19 @@ module _ (input : Input) where
       let out : State = record o.state { stop = s.stop; hidden = s.hidden } in
       let over : Ends Done (boxed_at stop s) o.state = subst (λ (e : End). Ends e (boxed_at stop s) o.state) (sym same) went.ends in
       subst (λ (e : End). Went s.inside s e out) same (record {
-        grown = grown_alike s.inside s out (boxed_at stop s) o.state went.grown refl refl refl refl;
+        grown = grown_alike s.inside s out (boxed_at stop s) o.state went.grown refl refl refl refl refl refl;
         ends = record { marks = over.marks; inside = over.inside; instead = over.instead; lists = over.lists; hidden = refl };
       })
   unboxed-goes s stop (Failed cause bit) o same went =
       let out : State = record o.state { hidden = s.hidden } in
       let over : Ends (Failed cause bit) (boxed_at stop s) o.state = subst (λ (e : End). Ends e (boxed_at stop s) o.state) (sym same) went.ends in
       subst (λ (e : End). Went s.inside s e out) same (record {
-        grown = grown_alike s.inside s out (boxed_at stop s) o.state went.grown refl refl refl refl;
+        grown = grown_alike s.inside s out (boxed_at stop s) o.state went.grown refl refl refl refl refl refl;
         ends = record { marks = over.marks; instead = over.instead; lists = over.lists; hidden = refl };
       })
   unboxed-goes s stop (Stopped cause quantity) o same went =
       subst (λ (e : End). Went s.inside s e o.state) same
-      (record { grown = grown_alike s.inside s o.state (boxed_at stop s) o.state went.grown refl refl refl refl; ends = tt })
+      (record { grown = grown_alike s.inside s o.state (boxed_at stop s) o.state went.grown refl refl refl refl refl refl; ends = tt })
 
   -- the lists that are open behind what was done where one more was
   closed_lists : (list : ℕ) (s t : State) → t.lists ≡ (opens list s).lists → take (length s.lists) t.lists ≡ s.lists
@@ -215,7 +226,7 @@ module _ (input : Input) where
       let out : State = closes_to (length s.lists) o.state in
       let over : Ends Done (opens list s) o.state = subst (λ (e : End). Ends e (opens list s) o.state) (sym same) went.ends in
       subst (λ (e : End). Went s.inside s e out) same (record {
-        grown = grown_alike s.inside s out (opens list s) o.state went.grown refl refl refl refl;
+        grown = grown_alike s.inside s out (opens list s) o.state went.grown refl refl refl refl refl refl;
         ends = record {
           marks = over.marks;
           inside = over.inside;
@@ -228,12 +239,12 @@ module _ (input : Input) where
       let out : State = closes_to (length s.lists) o.state in
       let over : Ends (Failed cause bit) (opens list s) o.state = subst (λ (e : End). Ends e (opens list s) o.state) (sym same) went.ends in
       subst (λ (e : End). Went s.inside s e out) same (record {
-        grown = grown_alike s.inside s out (opens list s) o.state went.grown refl refl refl refl;
+        grown = grown_alike s.inside s out (opens list s) o.state went.grown refl refl refl refl refl refl;
         ends = record { marks = over.marks; instead = over.instead; lists = closed_lists list s o.state over.lists; hidden = over.hidden };
       })
   unscoped-goes list s (Stopped cause quantity) o same went =
       subst (λ (e : End). Went s.inside s e o.state) same
-      (record { grown = grown_alike s.inside s o.state (opens list s) o.state went.grown refl refl refl refl; ends = tt })
+      (record { grown = grown_alike s.inside s o.state (opens list s) o.state went.grown refl refl refl refl refl refl; ends = tt })
 
   scoped-goes : (list : ℕ) (body : State → Outcome) → Goes body → Goes (scoped list body)
   scoped-goes list body goes s =
@@ -271,6 +282,7 @@ module _ (input : Input) where
             ∙ sym (other_same s.nodes (length s.nodes) at content apart);
         more = grown.more;
         text = grown.text;
+        ways = grown.ways;
       }
 
   left-grows : (one outer : ℕ) (complex : Bool) (t : State) → t.inside ≡ one → Grown one t (left outer complex t)
@@ -283,9 +295,10 @@ module _ (input : Input) where
             ∙ ap (λ (ns : List Node). slice_get ns at) (content_twice t.nodes one Complex content);
         more = [];
         text = sym (append-nil t.text);
+        ways = goes_same t.variables;
       }
   left-grows one outer false t same =
-      let here = grown one t in record { longer = here.longer; kept = here.kept; more = here.more; text = here.text }
+      let here = grown one t in record { longer = here.longer; kept = here.kept; more = here.more; text = here.text; ways = here.ways }
 
   -- what content was read by in place of its own primitive, as it is told behind a representation
   abbrev tried_by : End → Instead → Instead
@@ -329,12 +342,12 @@ module _ (input : Input) where
 
   room-tried : (id : ℕ) (complex : Bool) (body : State → Outcome) → Goes body → (instead : Instead) (s : State) (room : Bool)
       → (let out : Outcome = cond room (let o : Outcome = body (begun id instead s) in close o.end s.inside complex o)
-      (ended (Stopped Nodes input.limits.nodes) s) in Tries (length s.nodes) s instead out.end out.state)
+      (ended (Stopped (Limit Nodes) input.limits.nodes) s) in Tries (length s.nodes) s instead out.end out.state)
   room-tried id complex body goes instead s true =
       let o : Outcome = body (begun id instead s) in close-goes id instead complex s o.end o refl (goes (begun id instead s))
   room-tried id complex body goes instead s false =
       let here = grown (length s.nodes) s in
-      record { grown = record { longer = here.longer; kept = here.kept; more = here.more; text = here.text }; ends = tt }
+      record { grown = record { longer = here.longer; kept = here.kept; more = here.more; text = here.text; ways = here.ways }; ends = tt }
 
   -- one representation of an element
   tried-goes : (id : ℕ) (complex : Bool) (body : State → Outcome) → Goes body → (instead : Instead) (s : State)
@@ -349,7 +362,7 @@ module _ (input : Input) where
   -- what is tried alone
   alone_goes : (s t : State) (e : End) → Tries s.inside s Nothing e t → Went s.inside s e t
   alone_goes s t Done went = record {
-    grown = record { longer = went.grown.longer; kept = went.grown.kept; more = went.grown.more; text = went.grown.text };
+    grown = record { longer = went.grown.longer; kept = went.grown.kept; more = went.grown.more; text = went.grown.text; ways = went.grown.ways };
     ends = record {
       marks = went.ends.marks;
       inside = went.ends.inside;
@@ -359,7 +372,7 @@ module _ (input : Input) where
     };
   }
   alone_goes s t (Failed cause bit) went = record {
-    grown = record { longer = went.grown.longer; kept = went.grown.kept; more = went.grown.more; text = went.grown.text };
+    grown = record { longer = went.grown.longer; kept = went.grown.kept; more = went.grown.more; text = went.grown.text; ways = went.grown.ways };
     ends = record {
       marks = went.ends.marks;
       instead = inr (is_nothing t.instead went.ends.instead);
@@ -368,45 +381,50 @@ module _ (input : Input) where
     };
   }
   alone_goes s t (Stopped cause quantity) went = record {
-    grown = record { longer = went.grown.longer; kept = went.grown.kept; more = went.grown.more; text = went.grown.text };
+    grown = record { longer = went.grown.longer; kept = went.grown.kept; more = went.grown.more; text = went.grown.text; ways = went.grown.ways };
     ends = tt;
   }
 
   -- one from the mark of an element again
-  again_tried : (id : ℕ) (complex : Bool) (body : State → Outcome) → Goes body → (s : State) (instead before : Instead) (marks : List Mark)
-      → AreMarked s marks
-      → (let o : Outcome = attempted input id complex body instead (again_at s before marks) in Tries s.inside (marked s) instead o.end o.state)
-  again_tried id complex body goes s instead before marks same =
-      let from : State = again_at s before marks in
+  again_tried : (id : ℕ) (complex : Bool) (body : State → Outcome) → Goes body → (s : State) (instead before : Instead) (marks : List Mark) (kept : Kept)
+      → AreMarked s marks → IsBack s.variables kept
+      → (let o : Outcome = attempted input id complex body instead (again_at s before marks kept) in Tries s.inside (marked s) instead o.end o.state)
+  again_tried id complex body goes s instead before marks kept same is_back =
+      let from : State = again_at s before marks kept in
       let o : Outcome = attempted input id complex body instead from in
-      went_as s.inside (record (marked s) { instead = tried_by o.end instead }) o.state marks o.end same
+      went_as s.inside (record (marked s) { instead = tried_by o.end instead }) o.state marks kept o.end same (back_goes s.variables kept is_back)
       (any_tried from o.state instead o.end (tried-goes id complex body goes instead from))
 
   -- where it fails, what is gone back to is the state at the mark
-  pub tried-returns : (id : ℕ) (complex : Bool) (body : State → Outcome) → Goes body → (s : State) (instead before : Instead) (marks : List Mark)
-      → AreMarked s marks → (cause : ParseCause) (bit : ℕ)
-      → (attempted input id complex body instead (again_at s before marks)).end ≡ Failed cause bit
-      → GoesBack s (attempted input id complex body instead (again_at s before marks)).state
-  tried-returns id complex body goes s instead before marks same cause bit is =
-      let o : Outcome = attempted input id complex body instead (again_at s before marks) in
+  pub tried-returns : (id : ℕ) (complex : Bool) (body : State → Outcome) → Goes body → (s : State) (instead before : Instead) (marks : List Mark) (kept : Kept)
+      → AreMarked s marks → IsBack s.variables kept → (cause : ParseCause) (bit : ℕ)
+      → (attempted input id complex body instead (again_at s before marks kept)).end ≡ Failed cause bit
+      → GoesBack s (attempted input id complex body instead (again_at s before marks kept)).state
+  tried-returns id complex body goes s instead before marks kept same is_back cause bit is =
+      let o : Outcome = attempted input id complex body instead (again_at s before marks kept) in
       let went : Tries s.inside (marked s) instead (Failed cause bit) o.state =
-      subst (λ (e : End). Tries s.inside (marked s) instead e o.state) is (again_tried id complex body goes s instead before marks same) in
-      (failed_returns false false s o.state instead cause bit went, went.ends.marks)
+      subst (λ (e : End). Tries s.inside (marked s) instead e o.state) is (again_tried id complex body goes s instead before marks kept same is_back) in
+      record {
+        kept = kept_at s o.state;
+        there = failed_returns false false s o.state instead cause bit went;
+        marks = went.ends.marks;
+        is = went_kept false false s o.state instead (Failed cause bit) went;
+      }
 
   -- where one is done, the marks are those from before
-  pub tried-stays : (id : ℕ) (complex : Bool) (body : State → Outcome) → Goes body → (s : State) (instead before : Instead) (marks : List Mark)
-      → AreMarked s marks → (attempted input id complex body instead (again_at s before marks)).end ≡ Done
-      → AreMarked s (attempted input id complex body instead (again_at s before marks)).state.marks
-  tried-stays id complex body goes s instead before marks same is =
-      let o : Outcome = attempted input id complex body instead (again_at s before marks) in
+  pub tried-stays : (id : ℕ) (complex : Bool) (body : State → Outcome) → Goes body → (s : State) (instead before : Instead) (marks : List Mark) (kept : Kept)
+      → AreMarked s marks → IsBack s.variables kept → (attempted input id complex body instead (again_at s before marks kept)).end ≡ Done
+      → AreMarked s (attempted input id complex body instead (again_at s before marks kept)).state.marks
+  tried-stays id complex body goes s instead before marks kept same is_back is =
+      let o : Outcome = attempted input id complex body instead (again_at s before marks kept) in
       let went : Tries s.inside (marked s) instead Done o.state =
-      subst (λ (e : End). Tries s.inside (marked s) instead e o.state) is (again_tried id complex body goes s instead before marks same) in
+      subst (λ (e : End). Tries s.inside (marked s) instead e o.state) is (again_tried id complex body goes s instead before marks kept same is_back) in
       went.ends.marks
 
   refused_went : (s t : State) (instead : Instead) (cause : ParseCause) (bit : ℕ) → Tries s.inside (marked s) instead Done t
       → Went s.inside s (Failed cause bit) (refused s t)
   refused_went s t instead cause bit went = record {
-    grown = grown_alike s.inside s (refused s t) (marked_by s Nothing) t went.grown refl refl refl refl;
+    grown = grown_alike s.inside s (refused s t) (marked_by s Nothing) t went.grown refl refl refl refl refl refl;
     ends = record {
       marks = outer_same t.marks (marked s).marks went.ends.marks;
       instead = inr (is_nothing t.instead went.ends.instead);
@@ -421,12 +439,12 @@ module _ (input : Input) where
       (attempted input id complex body) (λ (instead : Instead). Unit {0}) tt
       (let o : Outcome = attempted input id complex body Nothing s in
       alone_goes s o.state o.end (any_tried s o.state Nothing o.end (tried-goes id complex body goes Nothing s)))
-      (λ instead before marks same one. again_tried id complex body goes s instead before marks same)
+      (λ instead before marks kept same is_back one. again_tried id complex body goes s instead before marks kept same is_back)
       (λ instead t went. alone_goes s (closed t) Done (unmarked_went s.inside (mark_at s) (record s { instead = Nothing }) Done t went))
       (λ cause bit t went. alone_goes s (closed t) (Failed cause bit)
       (unmarked_went s.inside (mark_at s) (record s { instead = Nothing }) (Failed cause bit) t went))
       (λ instead cause quantity t went. record {
-        grown = record { longer = went.grown.longer; kept = went.grown.kept; more = went.grown.more; text = went.grown.text };
+        grown = record { longer = went.grown.longer; kept = went.grown.kept; more = went.grown.more; text = went.grown.text; ways = went.grown.ways };
         ends = tt;
       })
       (λ instead t went. refused_went s t instead RequiredEmpty s.at went) (tried-stays id complex body goes s) (tried-returns id complex body goes s)
@@ -450,12 +468,54 @@ module _ (input : Input) where
       separated-carried (GoneBy s) (EndsBy s) (going s) sequence goes (λ id. going-carried s (sequence.child id) (goes id)) policy slots s.marks s
       (still s.inside Done s)
 
+  -- statements
+  going-tells : (s : State) → Tells input.limits (λ (t : State). Went s.inside s Done t) (λ (e : End) (t : State). Went s.inside s e t)
+  going-tells s = record {
+    again = λ t marks kept went same goes. (going s).again s.marks marks t t.instead kept went (inl refl) same goes;
+    lands = λ t v went written.
+        let o : Outcome = land input.limits t.at (Told (default_find t.at v)) t in
+        behind s t o.state o.end went (land-goes t.at (Told (default_find t.at v)) t);
+    done = λ t went. went;
+    ends = λ e t went. (going s).ends s.marks e t went;
+  }
+
+  told-goes : (start : Start) (s : State) (e : End) (t : State) → Went s.inside s e t → Went s.inside s e (told_at e start t)
+  told-goes start s Done t went = went
+  told-goes start s (Failed cause bit) t went = record {
+    grown = record { longer = went.grown.longer; kept = went.grown.kept; more = went.grown.more; text = went.grown.text; ways = went.grown.ways };
+    ends = record { marks = went.ends.marks; instead = went.ends.instead; lists = went.ends.lists; hidden = went.ends.hidden };
+  }
+  told-goes start s (Stopped cause quantity) t went = record {
+    grown = record { longer = went.grown.longer; kept = went.grown.kept; more = went.grown.more; text = went.grown.text; ways = went.grown.ways };
+    ends = tt;
+  }
+
+  again-goes : (s : State) (cause : ParseCause) (bit : ℕ) → Restates (λ (t : State). Went s.inside s (Failed cause bit) t)
+  again-goes s cause bit t marks kept went same goes = record {
+    grown = record {
+      longer = went.grown.longer;
+      kept = went.grown.kept;
+      more = went.grown.more;
+      text = went.grown.text;
+      ways = goes_twice s.variables t.variables kept went.grown.ways goes;
+    };
+    ends = record { marks = same ∙ went.ends.marks; instead = went.ends.instead; lists = went.ends.lists; hidden = went.ends.hidden };
+  }
+
+  concluded-goes : (table : Table) (start : Start) (behind : Statements) (s : State) (o : Outcome) → Went s.inside s o.end o.state
+      → (let out : Outcome = concluded input.limits table start behind o in Went s.inside s out.end out.state)
+  concluded-goes table start behind s o went =
+      concluded-comes input.limits (λ (t : State). Went s.inside s Done t) (λ (e : End) (t : State). Went s.inside s e t) (going-tells s) table
+      (λ (e : End) (t : State). Went s.inside s e t) (λ t there. there) start (told-goes start s) (again-goes s) behind o went
+
   module _ (table : Table) where
     row-goes : (child : ℕ → State → Outcome) → ((id : ℕ) → Goes (child id)) → (id : ℕ) (r : Option Row) → Goes (row input table child id r)
     row-goes child goes id None s = still s.inside Done s
     row-goes child goes id (Some (Leaf prim)) s =
         leaf-goes table.delimiters (nil_values table.primitives s.instead) (slice_get table.primitives (read_by table.primitives s.instead prim)) s
-    row-goes child goes id (Some (Elem name simple tried body)) s = element-goes id (has_elements simple) tried (child body) (goes body) s
+    row-goes child goes id (Some (Elem name simple tried behind body)) s =
+        concluded-goes table (At (length s.nodes)) behind s (element input id (has_elements simple) tried (child body) s)
+        (element-goes id (has_elements simple) tried (child body) (goes body) s)
     row-goes child goes id (Some (Group children)) s = group-goes child goes children s
     row-goes child goes id (Some (Skip bits)) s = pass-goes (s.at + bits) s (nat_le (s.at + bits) s.at) (nat_le (s.at + bits) s.stop)
     row-goes child goes id (Some (Align bits)) s = pass-goes (aligned bits s.at) s (nat_le (aligned bits s.at) s.at) (nat_le (aligned bits s.at) s.stop)
@@ -478,9 +538,10 @@ module _ (input : Input) where
     row-goes child goes id (Some (Repeat count body)) s = group-goes child goes (replicate count body) s
     row-goes child goes id (Some (Optional most item initiated body)) s = occurrences-go (child body) (goes body) initiated most s
     row-goes child goes id (Some (ChoiceRow branches initiated)) s = choice-goes child goes initiated branches s
-    row-goes child goes id (Some (Test number)) s =
-        test-comes (λ (e : End) (t : State). Went s.inside s e t) s (moved_as s.inside s s.at)
-        (λ cause. still s.inside (Failed cause s.at) s) (λ cause quantity. still s.inside (Stopped cause quantity) s) input table.tests number
+    row-goes child goes id (Some (Statement number)) s =
+        statement-comes input (λ (t : State). Went s.inside s Done t) (λ (e : End) (t : State). Went s.inside s e t) (going-tells s) table number s
+        (still s.inside Done s)
+    row-goes child goes id (Some (Concluded behind body)) s = concluded-goes table (Inside s.inside) behind s (child body s) (goes body s)
     row-goes child goes id (Some (Hidden body)) s = goes body s
     row-goes child goes id (Some (Separated policy position initiated slots)) s =
         let sequence : Sequence =

@@ -1,5 +1,6 @@
 -- What was done from a state on is carried along while more marks are open.
 use Rattle.std.proofs.Common.{List, ◌∷◌, ℕ, false, ap, ◌∙◌}
+use Rattle.dfdl_vars.specs.Kept.{Kept}
 use Rattle.dfdl_grammar.specs.declared.end.End.{End}
 use Rattle.dfdl_grammar.specs.declared.end.End.TheVariants.{Done, Failed, Stopped}
 use Rattle.dfdl_grammar.specs.declared.instead.Instead.{Instead}
@@ -9,6 +10,7 @@ use Rattle.dfdl_grammar.specs.Outcomes.{Outcome}
 use Rattle.dfdl_grammar.specs.Marks.{AreSame}
 use Rattle.dfdl_grammar.proofs.Carried.{Carried, Carries}
 use Rattle.dfdl_grammar.proofs.Grown.{Goes, IsKept, Went, behind, instead_twice, moved, twice, unmarked_went}
+use Rattle.dfdl_grammar.proofs.Ways.{GoesOn, goes_twice}
 
 module _ (s : State) where
   abbrev pub GoneBy : List Mark → State → Type 0
@@ -20,10 +22,16 @@ module _ (s : State) where
   going-moves : (marks : List Mark) (t : State) (at : ℕ) → GoneBy marks t → GoneBy marks (record t { at = at })
   going-moves marks t at went = twice s.inside (record s { marks = marks }) t (record t { at = at }) Done went (moved s.inside t at t.stop)
 
-  going-again : (marks others : List Mark) (t : State) (instead : Instead) → GoneBy marks t → IsKept t instead → AreSame others t.marks
-      → GoneBy marks (record t { instead = instead; marks = others })
-  going-again marks others t instead went is same = record {
-    grown = record { longer = went.grown.longer; kept = went.grown.kept; more = went.grown.more; text = went.grown.text };
+  going-again : (marks others : List Mark) (t : State) (instead : Instead) (kept : Kept) → GoneBy marks t → IsKept t instead → AreSame others t.marks
+      → GoesOn t.variables kept → GoneBy marks (record t { instead = instead; marks = others; variables = kept })
+  going-again marks others t instead kept went is same goes = record {
+    grown = record {
+      longer = went.grown.longer;
+      kept = went.grown.kept;
+      more = went.grown.more;
+      text = went.grown.text;
+      ways = goes_twice s.variables t.variables kept went.grown.ways goes;
+    };
     ends = record {
       marks = same ∙ went.ends.marks;
       inside = went.ends.inside;
@@ -35,7 +43,7 @@ module _ (s : State) where
 
   going-opens : (marks : List Mark) (t : State) (mark : Mark) → GoneBy marks t → GoneBy (mark ∷ marks) (record t { marks = mark ∷ t.marks })
   going-opens marks t mark went = record {
-    grown = record { longer = went.grown.longer; kept = went.grown.kept; more = went.grown.more; text = went.grown.text };
+    grown = record { longer = went.grown.longer; kept = went.grown.kept; more = went.grown.more; text = went.grown.text; ways = went.grown.ways };
     ends = record {
       marks = ap (λ (ms : List Mark). record mark { is_resolved = false } ∷ ms) went.ends.marks;
       inside = went.ends.inside;
@@ -63,7 +71,7 @@ module _ (s : State) where
     done = λ marks t went. went;
     closes_end = λ marks e t mark went. unmarked_went s.inside mark (record s { marks = marks }) e t went;
     stays = λ marks cause quantity t mark went. record {
-      grown = record { longer = went.grown.longer; kept = went.grown.kept; more = went.grown.more; text = went.grown.text };
+      grown = record { longer = went.grown.longer; kept = went.grown.kept; more = went.grown.more; text = went.grown.text; ways = went.grown.ways };
       ends = tt;
     };
   }

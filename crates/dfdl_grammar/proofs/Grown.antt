@@ -3,6 +3,8 @@ use Rattle.std.proofs.Common.{◌≡◌, ◌⊎◌, inl, inr, ℕ, zero, suc, �
 use Rattle.std.proofs.Math.Seq.{take-append_seam}
 use Rattle.std.specs.Prelude.{slice_get}
 use Rattle.dfdl_report.specs.declared.cause.ParseCause.{ParseCause}
+use Rattle.dfdl_vars.specs.Kept.{Kept}
+use Rattle.dfdl_vars.specs.Marks.{gone_back, mark_of}
 use Rattle.dfdl_region.specs.declared.node.Node.{Node}
 use Rattle.dfdl_region.specs.declared.node.Content.{Content}
 use Rattle.dfdl_region.specs.declared.node.Content.TheVariants.{Begun}
@@ -18,6 +20,7 @@ use Rattle.dfdl_grammar.specs.Marks.{AreSame, back, back_among, closed, content_
 use Rattle.dfdl_grammar.specs.Elements.{begun}
 use Rattle.dfdl_grammar.proofs.Represented.{marked_as}
 use Rattle.dfdl_grammar.proofs.Resolved.{back_same, outer_same}
+use Rattle.dfdl_grammar.proofs.Ways.{GoesOn, IsBack, gone_is, goes_same, goes_twice}
 
 pub content-length : (nodes : List Node) (number : ℕ) (content : Content) → length (with_content nodes number content) ≡ length nodes
 content-length [] number content = refl
@@ -89,13 +92,15 @@ begins_with (node ∷ rest) (other ∷ others) same =
 pub begun-longer : (id : ℕ) (instead : Instead) (s : State) → length (begun id instead s).nodes ≡ length s.nodes + 1
 begun-longer id instead s = length-append s.nodes (record { element = id; parent = s.inside; content = Begun } ∷ [])
 
--- a state that follows another, of whose elements at most one has another content: with any one content of that they are the same
+-- a state that follows another, of whose elements at most one has another content: with any one content of that they are the same; each
+-- way back to what was kept of the variables goes on
 pub record Grown (one : ℕ) (s t : State) : Type 0 where
   pub longer : length s.nodes ≤ length t.nodes
   pub kept : (content : Content) (at : ℕ) → at < length s.nodes
       → slice_get (with_content t.nodes one content) at ≡ slice_get (with_content s.nodes one content) at
   pub more : List ℕ
   pub text : t.text ≡ s.text ++ more
+  pub ways : GoesOn s.variables t.variables
 
 -- content is read by what it was read by, or by its own primitive
 abbrev pub IsKept : State → Instead → Type 0
@@ -137,7 +142,7 @@ abbrev pub Goes : (State → Outcome) → Type 0
 Goes f = (s : State) → Went s.inside s (f s).end (f s).state
 
 pub grown : (one : ℕ) (s : State) → Grown one s s
-grown one s = record { longer = omega arith; kept = λ content at few. refl; more = []; text = sym (append-nil s.text) }
+grown one s = record { longer = omega arith; kept = λ content at few. refl; more = []; text = sym (append-nil s.text); ways = goes_same s.variables }
 
 pub ends_here : (e : End) (s : State) → Ends e s s
 ends_here Done s = record { marks = refl; inside = refl; instead = inl refl; lists = refl; hidden = refl }
@@ -151,7 +156,7 @@ pub moved : (one : ℕ) (s : State) (to stop : ℕ) → Went one s Done (record 
 moved one s to stop =
     let same = grown one s in
     record {
-      grown = record { longer = same.longer; kept = same.kept; more = same.more; text = same.text };
+      grown = record { longer = same.longer; kept = same.kept; more = same.more; text = same.text; ways = same.ways };
       ends = record { marks = refl; inside = refl; instead = inl refl; lists = refl; hidden = refl };
     }
 
@@ -160,7 +165,7 @@ pub moved_as : (one : ℕ) (s : State) (at : ℕ) (marks : List Mark) → AreSam
 moved_as one s at marks is =
     let same = grown one s in
     record {
-      grown = record { longer = same.longer; kept = same.kept; more = same.more; text = same.text };
+      grown = record { longer = same.longer; kept = same.kept; more = same.more; text = same.text; ways = same.ways };
       ends = record { marks = is; inside = refl; instead = inl refl; lists = refl; hidden = refl };
     }
 
@@ -173,6 +178,7 @@ grown_twice one s t u first second =
       kept = λ content at few. second.kept content at (omega arith) ∙ first.kept content at few;
       more = first.more ++ second.more;
       text = second.text ∙ ap (λ (bytes : List ℕ). bytes ++ second.more) first.text ∙ append_assoc s.text first.more second.more;
+      ways = goes_twice s.variables t.variables u.variables first.ways second.ways;
     }
 
 pub instead_twice : (a b c : Instead) → (b ≡ a) ⊎ (b ≡ Nothing) → (c ≡ b) ⊎ (c ≡ Nothing) → (c ≡ a) ⊎ (c ≡ Nothing)
@@ -216,6 +222,7 @@ any_one one s t e went = record {
         (sym (other_same t.nodes (length s.nodes) at content apart) ∙ went.grown.kept content at few ∙ other_same s.nodes (length s.nodes) at content apart);
     more = went.grown.more;
     text = went.grown.text;
+    ways = went.grown.ways;
   };
   ends = went.ends;
 }
@@ -240,35 +247,46 @@ ends_closed mark s t (Stopped cause quantity) ends = tt
 pub unmarked_went : (one : ℕ) (mark : Mark) (s : State) (e : End) (t : State) → Went one (record s { marks = mark ∷ s.marks }) e t
     → Went one s e (closed t)
 unmarked_went one mark s e t went = record {
-  grown = record { longer = went.grown.longer; kept = went.grown.kept; more = went.grown.more; text = went.grown.text };
+  grown = record { longer = went.grown.longer; kept = went.grown.kept; more = went.grown.more; text = went.grown.text; ways = went.grown.ways };
   ends = ends_closed mark s t e went.ends;
 }
 
--- from a state with the same marks
-ends_as : (s t : State) (marks : List Mark) (e : End) → AreSame marks s.marks → Ends e (record s { marks = marks }) t → Ends e s t
-ends_as s t marks Done same ends = record {
+-- from a state with the same marks, to whose variables each way goes on
+ends_as : (s t : State) (marks : List Mark) (kept : Kept) (e : End) → AreSame marks s.marks → Ends e (record s { marks = marks; variables = kept }) t
+    → Ends e s t
+ends_as s t marks kept Done same ends = record {
   marks = ends.marks ∙ same;
   inside = ends.inside;
   instead = ends.instead;
   lists = ends.lists;
   hidden = ends.hidden;
 }
-ends_as s t marks (Failed cause bit) same ends =
+ends_as s t marks kept (Failed cause bit) same ends =
     record { marks = ends.marks ∙ same; instead = ends.instead; lists = ends.lists; hidden = ends.hidden }
-ends_as s t marks (Stopped cause quantity) same ends = tt
+ends_as s t marks kept (Stopped cause quantity) same ends = tt
 
-pub went_as : (one : ℕ) (s t : State) (marks : List Mark) (e : End) → AreSame marks s.marks → Went one (record s { marks = marks }) e t
-    → Went one s e t
-went_as one s t marks e same went = record {
-  grown = record { longer = went.grown.longer; kept = went.grown.kept; more = went.grown.more; text = went.grown.text };
-  ends = ends_as s t marks e same went.ends;
+pub went_as : (one : ℕ) (s t : State) (marks : List Mark) (kept : Kept) (e : End) → AreSame marks s.marks → GoesOn s.variables kept
+    → Went one (record s { marks = marks; variables = kept }) e t → Went one s e t
+went_as one s t marks kept e same goes went = record {
+  grown = record {
+    longer = went.grown.longer;
+    kept = went.grown.kept;
+    more = went.grown.more;
+    text = went.grown.text;
+    ways = goes_twice s.variables kept t.variables goes went.grown.ways;
+  };
+  ends = ends_as s t marks kept e same went.ends;
 }
+
+-- what is kept of the variables behind going back to a mark at a state
+abbrev pub kept_at : State → State → Kept
+kept_at s t = gone_back (mark_of s.variables) t.variables
 
 -- What is gone back to is the state at the mark, where the marks and the lists are those from then: no element before the mark has
 -- changed but for what the open one has.
 pub restored : (is_point initiated : Bool) (s t : State) (before : Instead) → Grown s.inside (marked_as is_point initiated s before) t
     → AreSame t.marks (marked_as is_point initiated s before).marks → t.lists ≡ s.lists → t.hidden ≡ s.hidden
-    → back t ≡ record s { instead = t.instead; marks = t.marks }
+    → back t ≡ record s { instead = t.instead; marks = t.marks; variables = kept_at s t }
 restored is_point initiated s t before grown marks lists hidden =
     let content : Content = content_of (slice_get s.nodes s.inside) in
     let size : length (with_content s.nodes s.inside content) ≡ length s.nodes = content-length s.nodes s.inside content in
@@ -291,6 +309,7 @@ restored is_point initiated s t before grown marks lists hidden =
       lists = ls;
       hidden = h;
       marks = t.marks;
+      variables = kept_at s t;
     } in
     back_same t.marks t
     ∙ ap (λ (ms : List Mark). back_among ms t) marks
@@ -301,11 +320,17 @@ restored is_point initiated s t before grown marks lists hidden =
 
 -- so it is behind what is done, and behind what fails
 pub done_returns : (is_point initiated : Bool) (s t : State) (before : Instead) → Went s.inside (marked_as is_point initiated s before) Done t
-    → back t ≡ record s { instead = t.instead; marks = t.marks }
+    → back t ≡ record s { instead = t.instead; marks = t.marks; variables = kept_at s t }
 done_returns is_point initiated s t before went =
     restored is_point initiated s t before went.grown went.ends.marks went.ends.lists went.ends.hidden
 
 pub failed_returns : (is_point initiated : Bool) (s t : State) (before : Instead) (cause : ParseCause) (bit : ℕ)
-    → Went s.inside (marked_as is_point initiated s before) (Failed cause bit) t → back t ≡ record s { instead = t.instead; marks = t.marks }
+    → Went s.inside (marked_as is_point initiated s before) (Failed cause bit) t
+    → back t ≡ record s { instead = t.instead; marks = t.marks; variables = kept_at s t }
 failed_returns is_point initiated s t before cause bit went =
     restored is_point initiated s t before went.grown went.ends.marks went.ends.lists went.ends.hidden
+
+-- and the variables are those from then, where these are sound
+pub went_kept : (is_point initiated : Bool) (s t : State) (before : Instead) (e : End) → Went s.inside (marked_as is_point initiated s before) e t
+    → IsBack s.variables (kept_at s t)
+went_kept is_point initiated s t before e went = gone_is s.variables t.variables went.grown.ways

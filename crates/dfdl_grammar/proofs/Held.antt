@@ -2,7 +2,7 @@
 use Rattle.std.proofs.Common.{◌≡◌, ◌⊎◌, inl, inr, ℕ, zero, suc, ◌+◌, ◌-◌, ◌*◌, ◌/◌, ◌%◌, ◌<◌, refl, List, [], ◌∷◌, ◌++◌, length, get_or, Bool, true, false, cond, leb, ltb, nat_eq, nat_le, nat_lt, Option, Some, None, Result, Ok, Err, All, ap, sym, subst, ◌∙◌, arith, IsUtf8, length-append, replicate}
 use Rattle.std.proofs.lemmas.Bool.Decides.{nat_tests}
 use Rattle.std.proofs.lemmas.List.Elements.{All-append}
-use Rattle.std.proofs.lemmas.Str.{IsUtf8-nil}
+use Rattle.std.proofs.lemmas.Str.{IsUtf8-from_is_utf8, IsUtf8-nil}
 use Rattle.std.specs.Prelude.{slice_get}
 use Rattle.dfdl_bits.specs.declared.window.Seen.{Seen}
 use Rattle.dfdl_bits.specs.declared.window.Seen.TheVariants.{Byte, End as DataEnded, Over}
@@ -24,7 +24,7 @@ use Rattle.dfdl_terms.specs.declared.representations.Representations.{Representa
 use Rattle.dfdl_terms.specs.declared.row.Primitive.{Primitive}
 use Rattle.dfdl_terms.specs.declared.row.Primitive.TheVariants.{Integer, Packed, Truth, Octets, Text as Characters, NilOctets, Default, NilValues, Pattern}
 use Rattle.dfdl_terms.specs.declared.row.Row.{Row}
-use Rattle.dfdl_terms.specs.declared.row.Row.TheVariants.{Leaf, Elem, Group, Skip, Align, Initiator, Terminator, Separator, Scope, Boxed, PrefixedLeaf, PrefixedBox, Repeat, Optional, Choice as ChoiceRow, Test, Hidden, Separated}
+use Rattle.dfdl_terms.specs.declared.row.Row.TheVariants.{Leaf, Elem, Group, Skip, Align, Initiator, Terminator, Separator, Scope, Boxed, PrefixedLeaf, PrefixedBox, Repeat, Optional, Choice as ChoiceRow, Statement, Concluded, Hidden, Separated}
 use Rattle.dfdl_terms.specs.declared.text.NilForm.{NilForm}
 use Rattle.dfdl_terms.specs.declared.text.OctetForm.{OctetForm}
 use Rattle.dfdl_terms.specs.declared.text.PatternForm.{PatternForm}
@@ -34,9 +34,12 @@ use Rattle.dfdl_terms.specs.declared.text.TextContent.TheVariants.{Plain, Octets
 use Rattle.dfdl_terms.specs.declared.text.TextForm.{TextForm}
 use Rattle.dfdl_separators.specs.declared.policy.SeparatorSuppressionPolicy.{SeparatorSuppressionPolicy}
 use Rattle.dfdl_terms.specs.declared.slots.Slot.{Slot}
+use Rattle.dfdl_terms.specs.declared.statement.Statements.{Statements}
 use Rattle.dfdl_terms.specs.declared.text.TextSize.{TextSize}
 use Rattle.dfdl_terms.specs.declared.text.TextSize.TheVariants.{Bits, Characters as Counted, Delimited}
 use Rattle.dfdl_terms.specs.Rows.{IsPrimitive, IsWritten, Table}
+use Rattle.dfdl_paths.specs.declared.place.Start.{Start}
+use Rattle.dfdl_paths.specs.declared.place.Start.TheVariants.{At, Inside}
 use Rattle.dfdl_forms.specs.declared.encoding.Encoding.TheVariants.{Iso88591}
 use Rattle.dfdl_chars.specs.Encodings.{encoded_text}
 use Rattle.dfdl_delims.specs.Lists.{Opened}
@@ -63,6 +66,7 @@ use Rattle.dfdl_looks.specs.Tallies.{needs_from, Tally, nothing}
 use Rattle.dfdl_looks.proofs.Sequels.{ask-then}
 use Rattle.dfdl_grammar.specs.declared.end.End.{End}
 use Rattle.dfdl_grammar.specs.declared.end.End.TheVariants.{Done, Failed, Stopped}
+use Rattle.dfdl_grammar.specs.declared.end.Halt.TheVariants.{Limit}
 use Rattle.dfdl_grammar.specs.declared.instead.Instead.{Instead}
 use Rattle.dfdl_grammar.specs.declared.mark.Mark.{Mark}
 use Rattle.dfdl_grammar.specs.declared.instead.Instead.TheVariants.{Nothing, Nil as InsteadNil, Empty}
@@ -80,6 +84,7 @@ use Rattle.dfdl_grammar.specs.Slots.{Sequence, separated}
 use Rattle.dfdl_grammar.specs.Elements.{attempted, begun, close, element, has_elements, left}
 use Rattle.dfdl_grammar.specs.Nils.{are_nil, is_nil}
 use Rattle.std.specs.List.{list_any}
+use Rattle.dfdl_grammar.specs.Statements.{concluded, is_written, told_at}
 use Rattle.dfdl_grammar.specs.Prefixes.{bits_of_units, leaf_of, prefixed, resized, size_of, sized_leaf}
 use Rattle.dfdl_grammar.specs.Rows.{below, group, meaning, row, row_at}
 use Rattle.dfdl_grammar.proofs.Found.{made, told_one}
@@ -90,7 +95,7 @@ use Rattle.dfdl_grammar.proofs.Prefixed.{prefixed-comes}
 use Rattle.dfdl_grammar.proofs.Carried.{Carries}
 use Rattle.dfdl_grammar.proofs.Pointed.{choice-carried, occurrences-carried}
 use Rattle.dfdl_grammar.proofs.Slotted.{separated-carried}
-use Rattle.dfdl_grammar.proofs.Tested.{test-comes}
+use Rattle.dfdl_grammar.proofs.Stated.{Tells, concluded-comes, statement-comes}
 use Rattle.dfdl_grammar.proofs.Represented.{again_at, any_ok, represented-comes}
 use Rattle.dfdl_grammar.proofs.Scanned.{AreScalars, Says, plain-scalars, scanned-scalars, trimmed-content-scalars}
 use Rattle.dfdl_grammar.proofs.Sought.{initiator-comes, separator-comes, terminator-comes}
@@ -160,6 +165,15 @@ default-held bit (Dec d) written = λ bytes. tt
 default-held bit (TextValue text) written = written
 default-held bit (TruthValue truth) written = λ bytes. tt
 default-held bit (Bytes octets) written = tt
+
+-- a value that was calculated
+written-is : (v : Value) → is_written v ≡ true → IsWritten v
+written-is (Int z) written = tt
+written-is (Uns n) written = tt
+written-is (Dec d) written = tt
+written-is (TextValue text) written = IsUtf8-from_is_utf8 text written
+written-is (TruthValue truth) written = tt
+written-is (Bytes octets) written = tt
 
 -- a value of a content without bits that its first step ends
 step-held : (v : Value) (bit : ℕ) (step : Step) → IsWritten v → IsHeld (default_by_step v bit step)
@@ -459,7 +473,7 @@ module _ (input : Input) (small : All (λ b. b < 256) input.bytes) where
         at = end;
         text = s.text ++ bytes;
         nodes = with_content s.nodes s.inside (made_of (length s.text) (length bytes));
-      })) (ended (Stopped TextLimit input.limits.text) s)).state
+      })) (ended (Stopped (Limit TextLimit) input.limits.text) s)).state
   hold-keeps made_of bytes end s has new true =
       content-has (HasText (s.text ++ bytes)) s.nodes s.inside (made_of (length s.text) (length bytes)) new
       (λ i node less. text-more s.text bytes (get_or s.nodes i node).content (has i node less))
@@ -585,7 +599,7 @@ module _ (input : Input) (small : All (λ b. b < 256) input.bytes) where
   close-has (Stopped cause quantity) outer complex o has = has
 
   room-tried : (id : ℕ) (complex : Bool) (body : State → Outcome) → Keeps body → (instead : Instead) (s : State) → Has s → (room : Bool)
-      → Has (cond room (let o : Outcome = body (begun id instead s) in close o.end s.inside complex o) (ended (Stopped Nodes input.limits.nodes) s)).state
+      → Has (cond room (let o : Outcome = body (begun id instead s) in close o.end s.inside complex o) (ended (Stopped (Limit Nodes) input.limits.nodes) s)).state
   room-tried id complex body keeps instead s has true =
       let first : State = begun id instead s in
       let o : Outcome = body first in close-has o.end s.inside complex o (keeps first (begun-has id instead s has))
@@ -598,7 +612,7 @@ module _ (input : Input) (small : All (λ b. b < 256) input.bytes) where
       λ instead t held. room-tried id complex body keeps instead t held (nat_lt (length t.nodes) input.limits.nodes) in
       represented-comes (λ (e : End) (t : State). Has t) (λ (instead : Instead) (e : End) (t : State). Has t) s
       (attempted input id complex body) (λ (instead : Instead). Unit {0}) tt
-      (attempt-keeps Nothing s has) (λ instead before marks same one. attempt-keeps instead (again_at s before marks) has)
+      (attempt-keeps Nothing s has) (λ instead before marks kept same is one. attempt-keeps instead (again_at s before marks kept) has)
       (λ instead t held. held) (λ cause bit t held. held) (λ instead cause quantity t held. held)
       (λ instead t held. held) (tried-stays input id complex body goes s) (tried-returns input id complex body goes s)
       tried (any_ok InsteadNil tried.nil) (any_ok Empty tried.empty)
@@ -613,7 +627,7 @@ module _ (input : Input) (small : All (λ b. b < 256) input.bytes) where
   holding : Carries HasBy EndsBy
   holding = record {
     moves = λ marks t at has. has;
-    again = λ marks others t instead has is same. has;
+    again = λ marks others t instead kept has is same goes. has;
     opens = λ marks t mark has. has;
     closes = λ marks t mark has. has;
     ends = λ marks e t has. has;
@@ -641,6 +655,31 @@ module _ (input : Input) (small : All (λ b. b < 256) input.bytes) where
   group-keeps child keeps (id ∷ rest) s has =
       follow-keeps (child id s).end (child id s) (group child rest) (group-keeps child keeps rest) (keeps id s has)
 
+  -- statements
+  default-keeps : (v : Value) (t : State) → Has t → is_written v ≡ true → Has (land input.limits t.at (Told (default_find t.at v)) t).state
+  default-keeps v t has written =
+      land-keeps t.at (Told (default_find t.at v))
+      (λ found is. subst IsHeld (told_one (default_find t.at v) found is) (default-held t.at v (written-is v written))) t has
+
+  holding-tells : Tells input.limits Has (λ (e : End) (t : State). Has t)
+  holding-tells = record {
+    again = λ t marks kept has same goes. has;
+    lands = λ t v has written. default-keeps v t has written;
+    done = λ t has. has;
+    ends = λ e t has. has;
+  }
+
+  told-keeps : (start : Start) (e : End) (t : State) → Has t → Has (told_at e start t)
+  told-keeps start Done t has = has
+  told-keeps start (Failed cause bit) t has = has
+  told-keeps start (Stopped cause quantity) t has = has
+
+  concluded-keeps : (table : Table) (start : Start) (behind : Statements) (o : Outcome) → Has o.state
+      → Has (concluded input.limits table start behind o).state
+  concluded-keeps table start behind o has =
+      concluded-comes input.limits Has (λ (e : End) (t : State). Has t) holding-tells table (λ (e : End) (t : State). Has t) (λ t there. there) start
+      (told-keeps start) (λ cause bit t marks kept there same goes. there) behind o has
+
   module _ (table : Table) (bounded : All IsPrimitive table.primitives) where
     row-keeps : (child : ℕ → State → Outcome) → ((id : ℕ) → Keeps (child id)) → ((id : ℕ) → Goes (child id)) → (id : ℕ) (r : Option Row)
         → Keeps (row input table child id r)
@@ -648,8 +687,9 @@ module _ (input : Input) (small : All (λ b. b < 256) input.bytes) where
     row-keeps child keeps goes id (Some (Leaf prim)) s has =
         let used : ℕ = read_by table.primitives s.instead prim in
         leaf-keeps table.delimiters (nil_values table.primitives s.instead) (slice_get table.primitives used) (sound-at table.primitives used bounded) s has
-    row-keeps child keeps goes id (Some (Elem name simple tried body)) s has =
-        element-keeps id (has_elements simple) tried (child body) (keeps body) (goes body) s has
+    row-keeps child keeps goes id (Some (Elem name simple tried behind body)) s has =
+        concluded-keeps table (At (length s.nodes)) behind (element input id (has_elements simple) tried (child body) s)
+        (element-keeps id (has_elements simple) tried (child body) (keeps body) (goes body) s has)
     row-keeps child keeps goes id (Some (Group children)) s has = group-keeps child keeps children s has
     row-keeps child keeps goes id (Some (Skip bits)) s has = pass-keeps (s.at + bits) s has (nat_le (s.at + bits) s.at) (nat_le (s.at + bits) s.stop)
     row-keeps child keeps goes id (Some (Align bits)) s has =
@@ -674,8 +714,9 @@ module _ (input : Input) (small : All (λ b. b < 256) input.bytes) where
     row-keeps child keeps goes id (Some (Optional most item initiated body)) s has =
         occurrences-keep (child body) (keeps body) (goes body) initiated most s has
     row-keeps child keeps goes id (Some (ChoiceRow branches initiated)) s has = choice-keeps child keeps goes initiated branches s has
-    row-keeps child keeps goes id (Some (Test number)) s has =
-        test-comes (λ (e : End) (t : State). Has t) s (λ marks same. has) (λ cause. has) (λ cause quantity. has) input table.tests number
+    row-keeps child keeps goes id (Some (Statement number)) s has =
+        statement-comes input Has (λ (e : End) (t : State). Has t) holding-tells table number s has
+    row-keeps child keeps goes id (Some (Concluded behind body)) s has = concluded-keeps table (Inside s.inside) behind (child body s) (keeps body s has)
     row-keeps child keeps goes id (Some (Hidden body)) s has = keeps body s has
     row-keeps child keeps goes id (Some (Separated policy position initiated slots)) s has =
         let sequence : Sequence =
@@ -696,7 +737,9 @@ module _ (input : Input) (small : All (λ b. b < 256) input.bytes) where
     below-keeps zero id s has = has
     below-keeps (suc n) id s has = below-choice n id (below-keeps n) s has (nat_eq id n)
 
-    pub meaning-has : (id start : ℕ) → HaveTexts (meaning input table id (front_at start)).state.nodes (meaning input table id (front_at start)).state.text
+    pub meaning-has : (id start : ℕ)
+        → HaveTexts (meaning input table id (front_at table start)).state.nodes (meaning input table id (front_at table start)).state.text
     unfolding meaning
     meaning-has id start =
-        row-keeps (below input table id) (below-keeps id) (below-goes input table id) id (slice_get table.rows id) (front_at start) (λ i d less. absurd (omega arith))
+        row-keeps (below input table id) (below-keeps id) (below-goes input table id) id (slice_get table.rows id) (front_at table start)
+        (λ i d less. absurd (omega arith))

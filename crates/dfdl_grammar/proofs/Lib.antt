@@ -5,6 +5,8 @@ pub mod Prefixed
 pub mod Resolved
 pub mod Sought
 pub mod Tested
+pub mod Ways
+pub mod Stated
 pub mod Represented
 pub mod Grown
 pub mod Carried

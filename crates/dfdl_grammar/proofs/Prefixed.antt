@@ -1,7 +1,6 @@
 -- A prefix and what follows it come to what follows it, begun at another bit, or to a failure or a limit where nothing was done.
 use Rattle.std.proofs.Common.{◌≡◌, ℕ, Bool, true, false, cond, List, Option, Some, None, refl}
 use Rattle.dfdl_bits.specs.declared.window.Seen.{Seen}
-use Rattle.dfdl_report.specs.declared.cause.LimitCause.{LimitCause}
 use Rattle.dfdl_report.specs.declared.cause.LimitCause.TheVariants.{Window}
 use Rattle.dfdl_report.specs.declared.cause.ParseCause.{ParseCause}
 use Rattle.dfdl_report.specs.declared.cause.ParseCause.TheVariants.{LengthOutOfRange}
@@ -13,6 +12,8 @@ use Rattle.dfdl_looks.specs.Looks.{seen_in}
 use Rattle.dfdl_looks.specs.Tallies.{needs_from, nothing}
 use Rattle.dfdl_grammar.specs.declared.end.End.{End}
 use Rattle.dfdl_grammar.specs.declared.end.End.TheVariants.{Failed, Stopped}
+use Rattle.dfdl_grammar.specs.declared.end.Halt.{Halt}
+use Rattle.dfdl_grammar.specs.declared.end.Halt.TheVariants.{Limit}
 use Rattle.dfdl_grammar.specs.States.{Input, State, anchor}
 use Rattle.dfdl_grammar.specs.Outcomes.{Outcome, ended, spend}
 use Rattle.dfdl_grammar.specs.Leaves.{Find, Fails, Finds, FindsOctets, FindsText, content_begins, failing_bit, has_room, program}
@@ -22,7 +23,7 @@ use Rattle.dfdl_grammar.proofs.Found.{whole-told}
 
 -- What holds of each failure and limit in the state before the prefix, and of what follows the prefix wherever that begins.
 module _ (P : End → State → Type 0) (s : State)
-    (fails : (cause : ParseCause) (bit : ℕ) → P (Failed cause bit) s) (stops : (cause : LimitCause) (quantity : ℕ) → P (Stopped cause quantity) s)
+    (fails : (cause : ParseCause) (bit : ℕ) → P (Failed cause bit) s) (stops : (cause : Halt) (quantity : ℕ) → P (Stopped cause quantity) s)
     (next : ℕ → State → Outcome)
     (goes_on : (units at : ℕ) → P (next units (record s { at = at })).end (next units (record s { at = at })).state) where
   behind-comes : (end : ℕ) (units : Option ℕ) → P (behind_prefix end next s units).end (behind_prefix end next s units).state
@@ -36,7 +37,7 @@ module _ (P : End → State → Type 0) (s : State)
     land-comes own first (Told (Finds content end)) here = behind-comes end (units_told own content)
     land-comes own first (Told (FindsOctets bytes end)) here = behind-comes end None
     land-comes own first (Told (FindsText bytes end)) here = behind-comes end None
-    land-comes own first TooFar here = stops Window input.limits.window
+    land-comes own first TooFar here = stops (Limit Window) input.limits.window
     land-comes own first Missing here = absurd (here refl)
 
     room-comes : (lists : List Opened) (own : ℕ) (primitive : Primitive) (room : Bool)

@@ -1,7 +1,6 @@
 -- The slots of a sequence carry what their occurrences carry.
 use Rattle.std.proofs.Common.{◌≡◌, refl, inl, List, [], ◌∷◌, ℕ, zero, suc, Bool, true, false, cond, ◌&&◌, nat_lt, Some, None, sym, subst, ◌∙◌, ap}
 use Rattle.dfdl_bits.specs.declared.window.Seen.{Seen}
-use Rattle.dfdl_report.specs.declared.cause.LimitCause.{LimitCause}
 use Rattle.dfdl_report.specs.declared.cause.LimitCause.TheVariants.{Window}
 use Rattle.dfdl_report.specs.declared.cause.ParseCause.TheVariants.{EmptyTrailingSlot, SeparatorMissing}
 use Rattle.dfdl_looks.specs.Asks.{Ask, Reached, Told, TooFar, Missing, ask}
@@ -25,6 +24,8 @@ use Rattle.dfdl_separators.specs.Verdicts.{begins, by_tried, ends, is_past, miss
 use Rattle.dfdl_terms.specs.declared.slots.Slot.{Slot}
 use Rattle.dfdl_grammar.specs.declared.end.End.{End}
 use Rattle.dfdl_grammar.specs.declared.end.End.TheVariants.{Done, Failed, Stopped}
+use Rattle.dfdl_grammar.specs.declared.end.Halt.{Halt}
+use Rattle.dfdl_grammar.specs.declared.end.Halt.TheVariants.{Limit}
 use Rattle.dfdl_grammar.specs.declared.mark.Mark.{Mark}
 use Rattle.dfdl_grammar.specs.States.{Input, State, anchor}
 use Rattle.dfdl_grammar.specs.Outcomes.{Outcome, ended}
@@ -34,17 +35,18 @@ use Rattle.dfdl_grammar.specs.Slots.{Course, Sequence, Tail, Turn, after_closing
 use Rattle.dfdl_grammar.proofs.Found.{whole-told}
 use Rattle.dfdl_grammar.proofs.Grown.{Goes, behind}
 use Rattle.dfdl_grammar.proofs.Sought.{separator-comes}
+use Rattle.dfdl_grammar.proofs.Ways.{goes_same}
 use Rattle.dfdl_grammar.proofs.Carried.{Carried, Carries, Since}
 use Rattle.dfdl_grammar.proofs.SlottedMoves.{Decides, IsLeft, Settles, any-of, decides, failed-falls, not-before, settles, stands, tried-of}
 use Rattle.dfdl_grammar.proofs.SlottedStates.{InSlot, around, begins-slot, closes-slot, ends-slot, goes-back, goes-back-failed, moves-slot, own_marks, stops-slot}
 
 -- a question and what follows it come to what follows it, or to a limit
 module _ (P : End → State → Type 0) (input : Input) (s : State) (next : Bool → State → Outcome)
-    (stops : (cause : LimitCause) (quantity : ℕ) → P (Stopped cause quantity) s)
+    (stops : (cause : Halt) (quantity : ℕ) → P (Stopped cause quantity) s)
     (follows : (answer : Bool) → P (next answer s).end (next answer s).state) where
   told-comes : (reached : Reached Bool) → (reached ≡ Missing → ⊥) → P (told input.limits next reached s).end (told input.limits next reached s).state
   told-comes (Told answer) here = follows answer
-  told-comes TooFar here = stops Window input.limits.window
+  told-comes TooFar here = stops (Limit Window) input.limits.window
   told-comes Missing here = absurd (here refl)
 
   pub peek-comes : (question : Ask Bool) → P (peek input question next s).end (peek input question next s).state
@@ -95,11 +97,11 @@ module _ (R : List Mark → State → Type 0) (P : List Mark → End → State �
         held-ends : (e : End) (t : State) → P own e t → P marks e (closed_slot here t)
         held-ends e t holds = ends-slot R P carries sequence.initiated u marks (is_tried rule) (has_mark here) e t holds
 
-        held-stops : (cause : LimitCause) (quantity : ℕ) (t : State) → P own (Stopped cause quantity) t → P marks (Stopped cause quantity) t
+        held-stops : (cause : Halt) (quantity : ℕ) (t : State) → P own (Stopped cause quantity) t → P marks (Stopped cause quantity) t
         held-stops cause quantity t holds =
             stops-slot R P carries sequence.initiated u marks (is_tried rule) (has_mark here) cause quantity t holds
 
-        held-stopped : (cause : LimitCause) (quantity : ℕ) (t : State) → Held t → P marks (Stopped cause quantity) t
+        held-stopped : (cause : Halt) (quantity : ℕ) (t : State) → Held t → P marks (Stopped cause quantity) t
         held-stopped cause quantity t held = held-stops cause quantity t (carries.ends own (Stopped cause quantity) t held.0)
 
         held-back : (t : State) → Held t → is_tried rule ≡ true → Held (back t)
@@ -306,7 +308,8 @@ module _ (R : List Mark → State → Type 0) (P : List Mark → End → State �
           let o : Outcome = separator sequence.input sequence.delimiters s in
           behind-comes is o.end o refl
           (separator-comes (λ (e : End) (t : State). R marks t) s
-          (λ at others same. carries.moves marks (record s { marks = others }) at (carries.again marks others s s.instead has (inl refl) same))
+          (λ at others same. carries.moves marks (record s { marks = others }) at
+          (carries.again marks others s s.instead s.variables has (inl refl) same (goes_same s.variables)))
           (λ cause. has) (λ cause quantity. has) sequence.input sequence.delimiters)
 
       -- a slot begins

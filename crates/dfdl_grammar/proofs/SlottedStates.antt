@@ -1,13 +1,14 @@
 -- The marks of a slot are opened and closed.
 use Rattle.std.proofs.Common.{◌≡◌, refl, inl, List, ◌∷◌, ℕ, Bool, true, false, cond, sym, subst}
-use Rattle.dfdl_report.specs.declared.cause.LimitCause.{LimitCause}
 use Rattle.dfdl_report.specs.declared.cause.ParseCause.{ParseCause}
 use Rattle.dfdl_grammar.specs.declared.end.End.{End}
 use Rattle.dfdl_grammar.specs.declared.end.End.TheVariants.{Done, Failed, Stopped}
+use Rattle.dfdl_grammar.specs.declared.end.Halt.{Halt}
 use Rattle.dfdl_grammar.specs.declared.mark.Mark.{Mark}
 use Rattle.dfdl_grammar.specs.States.{State}
 use Rattle.dfdl_grammar.specs.Marks.{AreSame, back, closed, mark_at, marked, point_at, pointed}
 use Rattle.dfdl_grammar.proofs.Grown.{behind, moved_as, still}
+use Rattle.dfdl_grammar.proofs.Ways.{goes_same}
 use Rattle.dfdl_grammar.proofs.Carried.{Carries, Since, back-failed, back-has, since-back, since-failed}
 
 -- the state at which the point of a slot is opened: where another mark is open around it, the state with that
@@ -60,7 +61,7 @@ module _ (R : List Mark → State → Type 0) (P : List Mark → End → State �
         carries.closes_end marks e (closed t) (mark_at u) (carries.closes_end (mark_at u ∷ marks) e t (point_at initiated (marked u)) holds)
 
     -- where a limit is reached they stay open
-    pub stops-slot : (tried mark : Bool) (cause : LimitCause) (quantity : ℕ) (t : State)
+    pub stops-slot : (tried mark : Bool) (cause : Halt) (quantity : ℕ) (t : State)
         → P (own_marks tried mark initiated u marks) (Stopped cause quantity) t
         → P marks (Stopped cause quantity) t
     stops-slot false mark cause quantity t holds = holds
@@ -74,7 +75,7 @@ module _ (R : List Mark → State → Type 0) (P : List Mark → End → State �
           → InSlot tried mark initiated u marks (record t { at = at; marks = others })
       moves-slot t at others same held = (
         carries.moves (own_marks tried mark initiated u marks) (record t { marks = others }) at
-            (carries.again (own_marks tried mark initiated u marks) others t t.instead held.0 (inl refl) same),
+            (carries.again (own_marks tried mark initiated u marks) others t t.instead t.variables held.0 (inl refl) same (goes_same t.variables)),
         λ is. behind (pointed initiated (around mark u)) t (record t { at = at; marks = others }) Done (held.1 is)
             (moved_as t.inside t at others same),
       )

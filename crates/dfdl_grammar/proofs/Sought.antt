@@ -3,7 +3,6 @@ use Rattle.std.proofs.Common.{◌≡◌, refl, sym, subst, ◌∙◌, ℕ, ◌+�
 use Rattle.dfdl_bits.specs.declared.window.Seen.{Seen}
 use Rattle.dfdl_delims.specs.Lists.{Opened}
 use Rattle.dfdl_delims.specs.Longest.{Longest, Text, NoText}
-use Rattle.dfdl_report.specs.declared.cause.LimitCause.{LimitCause}
 use Rattle.dfdl_report.specs.declared.cause.LimitCause.TheVariants.{Window}
 use Rattle.dfdl_report.specs.declared.cause.ParseCause.{ParseCause}
 use Rattle.dfdl_report.specs.declared.cause.ParseCause.TheVariants.{InitiatorMissing, SeparatorMissing, TerminatorMissing}
@@ -14,6 +13,8 @@ use Rattle.dfdl_looks.specs.Looks.{seen_in}
 use Rattle.dfdl_looks.specs.Tallies.{nothing}
 use Rattle.dfdl_grammar.specs.declared.end.End.{End}
 use Rattle.dfdl_grammar.specs.declared.end.End.TheVariants.{Done, Failed, Stopped}
+use Rattle.dfdl_grammar.specs.declared.end.Halt.{Halt}
+use Rattle.dfdl_grammar.specs.declared.end.Halt.TheVariants.{Limit}
 use Rattle.dfdl_grammar.specs.declared.mark.Mark.{Mark}
 use Rattle.dfdl_grammar.specs.Delimiters.{found_initiator, initiator, lists_of, markup, numbers_of, passed_text, seek, separator, sought_among, stands_in, terminator}
 use Rattle.dfdl_grammar.specs.Framing.{aligned}
@@ -25,7 +26,7 @@ use Rattle.dfdl_grammar.proofs.Resolved.{initiated-comes}
 -- What holds of the state at any bit, where more of its points may be resolved, and of each failure and limit where it stood.
 module _ (P : End → State → Type 0) (s : State)
     (moves : (at : ℕ) (marks : List Mark) → AreSame marks s.marks → P Done (record s { at = at; marks = marks }))
-    (fails : (cause : ParseCause) → P (Failed cause s.at) s) (stops : (cause : LimitCause) (quantity : ℕ) → P (Stopped cause quantity) s) where
+    (fails : (cause : ParseCause) → P (Failed cause s.at) s) (stops : (cause : Halt) (quantity : ℕ) → P (Stopped cause quantity) s) where
   text-comes : (cause : ParseCause) (bits : ℕ) (is : Bool)
       → (let o : Outcome = cond is (ended Done (record s { at = aligned 8 s.at + bits })) (ended (Failed cause s.at) s) in P o.end o.state)
   text-comes cause bits true = moves (aligned 8 s.at + bits) s.marks refl
@@ -35,7 +36,7 @@ module _ (P : End → State → Type 0) (s : State)
       → P (passed_text cause place window reached s).end (passed_text cause place window reached s).state
   passed-comes cause place window (Told (Text which bits)) = text-comes cause bits (nat_eq which place && nat_lt 0 bits)
   passed-comes cause place window (Told NoText) = fails cause
-  passed-comes cause place window TooFar = stops Window window
+  passed-comes cause place window TooFar = stops (Limit Window) window
   passed-comes cause place window Missing = moves s.at s.marks refl
 
   module _ (input : Input) where
@@ -61,7 +62,7 @@ module _ (P : End → State → Type 0) (s : State)
 -- the same of an initiator, which may resolve a point where it is found
 module _ (P : End → State → Type 0) (s : State)
     (moves : (at : ℕ) (marks : List Mark) → AreSame marks s.marks → P Done (record s { at = at; marks = marks }))
-    (fails : (cause : ParseCause) → P (Failed cause s.at) s) (stops : (cause : LimitCause) (quantity : ℕ) → P (Stopped cause quantity) s)
+    (fails : (cause : ParseCause) → P (Failed cause s.at) s) (stops : (cause : Halt) (quantity : ℕ) → P (Stopped cause quantity) s)
     (input : Input) where
   -- where a text was found that may be an initiator
   abbrev Resolves : End → State → Type 0

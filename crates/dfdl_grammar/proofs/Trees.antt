@@ -2,17 +2,22 @@
 use Rattle.std.proofs.Common.{◌≡◌, ℕ, zero, suc, ◌+◌, ◌-◌, ◌*◌, ◌/◌, ◌<◌, ◌≤◌, refl, List, [], ◌∷◌, ◌++◌, length, Bool, true, false, cond, nat_eq, nat_le, nat_lt, Option, Some, None, ap, sym, subst, arith, zero-add, replicate}
 use Rattle.std.specs.Prelude.{slice_get}
 use Rattle.dfdl_report.specs.declared.cause.LimitCause.TheVariants.{Nodes, Text as TextLimit}
+use Rattle.dfdl_report.specs.declared.cause.ParseCause.{ParseCause}
 use Rattle.dfdl_report.specs.declared.cause.ParseCause.TheVariants.{LengthOutOfRange}
 use Rattle.dfdl_terms.specs.declared.delimiters.Delimiters.{Delimiters}
 use Rattle.dfdl_terms.specs.declared.representations.Representations.{Representations}
 use Rattle.dfdl_value.specs.declared.value.Value.{Value}
 use Rattle.dfdl_terms.specs.declared.row.Primitive.{Primitive}
 use Rattle.dfdl_terms.specs.declared.row.Row.{Row}
-use Rattle.dfdl_terms.specs.declared.row.Row.TheVariants.{Leaf, Elem, Group, Skip, Align, Initiator, Terminator, Separator, Scope, Boxed, PrefixedLeaf, PrefixedBox, Repeat, Optional, Choice as ChoiceRow, Test, Hidden, Separated}
+use Rattle.dfdl_terms.specs.declared.row.Row.TheVariants.{Leaf, Elem, Group, Skip, Align, Initiator, Terminator, Separator, Scope, Boxed, PrefixedLeaf, PrefixedBox, Repeat, Optional, Choice as ChoiceRow, Statement, Concluded, Hidden, Separated}
 use Rattle.dfdl_separators.specs.declared.policy.SeparatorSuppressionPolicy.{SeparatorSuppressionPolicy}
 use Rattle.dfdl_terms.specs.declared.slots.Slot.{Slot}
+use Rattle.dfdl_terms.specs.declared.statement.Statements.{Statements}
 use Rattle.dfdl_terms.specs.declared.text.TextSize.{TextSize}
 use Rattle.dfdl_terms.specs.Rows.{IsElementRow, Table}
+use Rattle.dfdl_paths.specs.declared.place.Start.{Start}
+use Rattle.dfdl_paths.specs.declared.place.Start.TheVariants.{At, Inside}
+use Rattle.dfdl_surroundings.specs.Answers.{element_of}
 use Rattle.dfdl_region.specs.declared.node.Node.{Node}
 use Rattle.dfdl_region.specs.declared.node.Content.{Content}
 use Rattle.dfdl_region.specs.declared.node.Content.TheVariants.{Begun, Complex, Text, Octets}
@@ -22,13 +27,14 @@ use Rattle.dfdl_looks.specs.Looks.{seen_in}
 use Rattle.dfdl_looks.specs.Tallies.{needs_from, nothing}
 use Rattle.dfdl_grammar.specs.declared.end.End.{End}
 use Rattle.dfdl_grammar.specs.declared.end.End.TheVariants.{Done, Failed, Stopped}
+use Rattle.dfdl_grammar.specs.declared.end.Halt.TheVariants.{Limit}
 use Rattle.dfdl_grammar.specs.declared.instead.Instead.{Instead}
 use Rattle.dfdl_grammar.specs.declared.mark.Mark.{Mark}
 use Rattle.dfdl_grammar.specs.declared.instead.Instead.TheVariants.{Nothing, Nil, Empty}
 use Rattle.dfdl_grammar.specs.States.{Input, State, anchor, anchor_at}
 use Rattle.dfdl_grammar.specs.Documents.{front_at}
 use Rattle.dfdl_grammar.specs.Outcomes.{Outcome, ended, follow, spend, then_do}
-use Rattle.dfdl_grammar.specs.Leaves.{Find, Fails, Finds, FindsOctets, FindsText, content_begins, has_room, land, leaf, nil_values, program_for, read_by}
+use Rattle.dfdl_grammar.specs.Leaves.{Find, Fails, Finds, FindsOctets, FindsText, content_begins, default_find, has_room, land, leaf, nil_values, program_for, read_by}
 use Rattle.dfdl_grammar.specs.Framing.{aligned, fill_to, has_byte, passed}
 use Rattle.dfdl_grammar.specs.Delimiters.{closes_to, lists_of, markup, opens, scoped, unscoped}
 use Rattle.dfdl_grammar.specs.Boxes.{boxed, boxed_at, bytes_up_to, pass_bytes, past_byte, rest as rest_of, unboxed}
@@ -37,6 +43,7 @@ use Rattle.dfdl_grammar.specs.Marks.{closed}
 use Rattle.dfdl_grammar.specs.Choices.{choice}
 use Rattle.dfdl_grammar.specs.Occurrences.{occurrences}
 use Rattle.dfdl_grammar.specs.Slots.{Sequence, separated}
+use Rattle.dfdl_grammar.specs.Statements.{concluded, told_at}
 use Rattle.dfdl_grammar.specs.Prefixes.{bits_of_units, leaf_of, prefixed, resized, size_of, sized_leaf}
 use Rattle.dfdl_grammar.specs.Rows.{below, group, meaning, row, row_at}
 use Rattle.dfdl_grammar.specs.Trees.{IsNode, IsTree}
@@ -46,7 +53,7 @@ use Rattle.dfdl_grammar.proofs.Prefixed.{prefixed-comes}
 use Rattle.dfdl_grammar.proofs.Carried.{Carried, Carries}
 use Rattle.dfdl_grammar.proofs.Pointed.{choice-carried, occurrences-carried}
 use Rattle.dfdl_grammar.proofs.Slotted.{separated-carried}
-use Rattle.dfdl_grammar.proofs.Tested.{test-comes}
+use Rattle.dfdl_grammar.proofs.Stated.{Restates, Tells, concluded-comes, statement-comes}
 use Rattle.dfdl_grammar.proofs.Represented.{again_at, any_ok, refused, represented-comes}
 use Rattle.dfdl_grammar.proofs.Sought.{initiator-comes, separator-comes, terminator-comes}
 
@@ -55,6 +62,19 @@ record Grows (table : Table) (s : State) : Type 0 where
   tree : IsTree table s.nodes
   few : s.inside ≤ length s.nodes
   open_one : 0 < length s.nodes → s.inside < length s.nodes
+
+-- A state behind others, where statements stand in the element that has them: as many elements are among these, and it is one, where there
+-- are any.
+record Stands (table : Table) (start : Start) (s t : State) : Type 0 where
+  grows : Grows table t
+  longer : length s.nodes ≤ length t.nodes
+  few : element_of start ≤ length t.nodes
+  open_one : 0 < length t.nodes → element_of start < length t.nodes
+
+-- an element that is among some is among more
+among_more : (number few many : ℕ) → number ≤ few → (0 < few → number < few) → few ≤ many → 0 < many → number < many
+among_more number zero many within among more some = omega arith
+among_more number (suc few) many within among more some = let less = among (omega arith) in omega arith
 
 -- a node of which only the content may have changed
 record IsLike (nodes : List Node) (at : ℕ) (node : Node) : Type 0 where
@@ -141,7 +161,7 @@ module _ (input : Input) (table : Table) where
         at = end;
         text = s.text ++ bytes;
         nodes = with_content s.nodes s.inside (content (length s.text) (length bytes));
-      })) (ended (Stopped TextLimit input.limits.text) s)).state
+      })) (ended (Stopped (Limit TextLimit) input.limits.text) s)).state
   hold-keeps content bytes end s good true =
       let made : Content = content (length s.text) (length bytes) in
       let grown = content-grows s s.inside end s.inside made good good.few good.open_one in
@@ -231,7 +251,7 @@ module _ (input : Input) (table : Table) where
 
   room-tried : (id : ℕ) (complex : Bool) (body : State → Outcome) → IsElementRow (slice_get table.rows id) → Keeps body
       → (instead : Instead) (s : State) → Grows table s → (room : Bool)
-      → (let out : Outcome = cond room (let o : Outcome = body (begun id instead s) in close o.end s.inside complex o) (ended (Stopped Nodes input.limits.nodes) s) in
+      → (let out : Outcome = cond room (let o : Outcome = body (begun id instead s) in close o.end s.inside complex o) (ended (Stopped (Limit Nodes) input.limits.nodes) s) in
       Began s out.end out.state)
   room-tried id complex body elem keeps instead s good true =
       let first : State = begun id instead s in
@@ -251,21 +271,21 @@ module _ (input : Input) (table : Table) where
       let more = began.1 refl in
       (record { tree = grown.tree; few = omega arith; open_one = λ some. omega arith }, omega arith)
 
-  element-keeps : (id : ℕ) (complex : Bool) (tried : Representations) (body : State → Outcome) → IsElementRow (slice_get table.rows id) → Keeps body
-      → Goes body → Keeps (element input id complex tried body)
-  element-keeps id complex tried body elem keeps goes s good =
+  element-begins : (id : ℕ) (complex : Bool) (tried : Representations) (body : State → Outcome) → IsElementRow (slice_get table.rows id) → Keeps body
+      → Goes body → (s : State) → Grows table s → (let o : Outcome = element input id complex tried body s in Began s o.end o.state)
+  element-begins id complex tried body elem keeps goes s good =
       let attempt-keeps : (instead : Instead) (t : State) → Grows table t
       → Began t (attempted input id complex body instead t).end (attempted input id complex body instead t).state =
       λ instead t grows. room-tried id complex body elem keeps instead t grows (nat_lt (length t.nodes) input.limits.nodes) in
-      represented-comes (λ (e : End) (t : State). Follows s t) (λ (instead : Instead) (e : End) (t : State). Began s e t) s
+      represented-comes (λ (e : End) (t : State). Began s e t) (λ (instead : Instead) (e : End) (t : State). Began s e t) s
       (attempted input id complex body) (λ (instead : Instead). Unit {0}) tt
-      (attempt-keeps Nothing s good).0
-      (λ instead before marks same one. attempt-keeps instead (again_at s before marks) (alike s (again_at s before marks) good refl refl))
-      (λ instead t began. (alike t (closed t) began.0.0 refl refl, began.0.1))
-      (λ cause bit t began. (alike t (closed t) began.0.0 refl refl, began.0.1))
-      (λ instead cause quantity t began. began.0)
-      (λ instead t began. refused-follows s t began) (tried-stays input id complex body goes s) (tried-returns input id complex body goes s)
-      tried (any_ok Nil tried.nil) (any_ok Empty tried.empty)
+      (attempt-keeps Nothing s good)
+      (λ instead before marks kept same is one. attempt-keeps instead (again_at s before marks kept) (alike s (again_at s before marks kept) good refl refl))
+      (λ instead t began. ((alike t (closed t) began.0.0 refl refl, began.0.1), λ done. began.1 refl))
+      (λ cause bit t began. ((alike t (closed t) began.0.0 refl refl, began.0.1), λ done. absurd (cc)))
+      (λ instead cause quantity t began. began)
+      (λ instead t began. (refused-follows s t began, λ done. absurd (cc))) (tried-stays input id complex body goes s)
+      (tried-returns input id complex body goes s) tried (any_ok Nil tried.nil) (any_ok Empty tried.empty)
 
   follow-keeps : (end : End) (o : Outcome) (next : State → Outcome) → Keeps next → Grows table o.state → Follows o.state (follow end o next).state
   follow-keeps Done o next keeps good = keeps o.state good
@@ -340,7 +360,7 @@ module _ (input : Input) (table : Table) where
     growing : Carries FollowsBy EndsBy
     growing = record {
       moves = λ marks t at grown. follows-as t (record t { at = at }) grown refl refl;
-      again = λ marks others t instead grown is same. follows-as t (record t { instead = instead; marks = others }) grown refl refl;
+      again = λ marks others t instead kept grown is same goes. follows-as t (record t { instead = instead; marks = others; variables = kept }) grown refl refl;
       opens = λ marks t mark grown. follows-as t (record t { marks = mark ∷ t.marks }) grown refl refl;
       closes = λ marks t mark grown. follows-as t (closed t) grown refl refl;
       ends = λ marks e t grown. grown;
@@ -383,13 +403,85 @@ module _ (input : Input) (table : Table) where
       let b = last.1 in
       (last.0, omega arith)
 
+  -- statements
+  tree-tells : (start : Start) (s : State) → Tells input.limits (λ (t : State). Stands table start s t) (λ (e : End) (t : State). Stands table start s t)
+  tree-tells start s = record {
+    again = λ t marks kept stands same goes. record {
+      grows = alike t (record t { marks = marks; variables = kept }) stands.grows refl refl;
+      longer = stands.longer;
+      few = stands.few;
+      open_one = stands.open_one;
+    };
+    lands = λ t v stands written.
+        let u : State = (land input.limits t.at (Told (default_find t.at v)) t).state in
+        let last : Follows t u = land-keeps t.at (Told (default_find t.at v)) t stands.grows in
+        let a = stands.longer in
+        let b = last.1 in
+        let c = stands.few in
+        record {
+          grows = last.0;
+          longer = omega arith;
+          few = omega arith;
+          open_one = among_more (element_of start) (length t.nodes) (length u.nodes) stands.few stands.open_one last.1;
+        };
+    done = λ t stands. stands;
+    ends = λ e t stands. stands;
+  }
+
+  -- behind a component, which is in the element where its statements stand
+  abbrev Concludes : Start → State → End → State → Type 0
+  Concludes start s e t = Follows s t × (e ≡ Done → Stands table start s t)
+
+  told-keeps : (start : Start) (s : State) (e : End) (t : State) → Stands table start s t → Concludes start s e (told_at e start t)
+  told-keeps start s Done t stands = ((stands.grows, stands.longer), λ done. stands)
+  told-keeps start s (Failed cause bit) t stands =
+      ((record { tree = stands.grows.tree; few = stands.few; open_one = stands.open_one }, stands.longer), λ done. absurd (cc))
+  told-keeps start s (Stopped cause quantity) t stands =
+      ((record { tree = stands.grows.tree; few = stands.few; open_one = stands.open_one }, stands.longer), λ done. absurd (cc))
+
+  again-keeps : (start : Start) (s : State) (cause : ParseCause) (bit : ℕ) → Restates (λ (t : State). Concludes start s (Failed cause bit) t)
+  again-keeps start s cause bit t marks kept holds same goes =
+      ((alike t (record t { marks = marks; variables = kept }) holds.0.0 refl refl, holds.0.1), λ done. absurd (cc))
+
+  concluded-keeps : (start : Start) (behind : Statements) (s : State) (o : Outcome) → Concludes start s o.end o.state
+      → Follows s (concluded input.limits table start behind o).state
+  concluded-keeps start behind s o holds =
+      (concluded-comes input.limits (λ (t : State). Stands table start s t) (λ (e : End) (t : State). Stands table start s t) (tree-tells start s) table
+      (λ (e : End) (t : State). Concludes start s e t) (λ t there. there.1 refl) start (told-keeps start s) (again-keeps start s) behind o holds).0
+
+  -- an element stands behind those that there were, and a group in the one that was open
+  element-stands : (s : State) (e : End) (t : State) → Began s e t → Concludes (At (length s.nodes)) s e t
+  element-stands s e t began = (
+    began.0,
+    λ done.
+        let more = began.1 done in
+        record { grows = began.0.0; longer = began.0.1; few = began.0.1; open_one = λ some. more },
+  )
+
+  group-stands : (s : State) (e : End) (t : State) → Grows table s → Follows s t → Concludes (Inside s.inside) s e t
+  group-stands s e t good follows = (
+    follows,
+    λ done.
+        let a = good.few in
+        let b = follows.1 in
+        record {
+          grows = follows.0;
+          longer = follows.1;
+          few = omega arith;
+          open_one = among_more s.inside (length s.nodes) (length t.nodes) good.few good.open_one follows.1;
+        },
+  )
+
   row-keeps : (child : ℕ → State → Outcome) → ((id : ℕ) → Keeps (child id)) → ((id : ℕ) → Goes (child id)) → (id : ℕ) (r : Option Row)
       → slice_get table.rows id ≡ r → Keeps (row input table child id r)
   row-keeps child keeps goes id None is s good = (good, same_length (length s.nodes))
   row-keeps child keeps goes id (Some (Leaf prim)) is s good =
       leaf-keeps table.delimiters (nil_values table.primitives s.instead) (slice_get table.primitives (read_by table.primitives s.instead prim)) s good
-  row-keeps child keeps goes id (Some (Elem name simple tried body)) is s good =
-      element-keeps id (has_elements simple) tried (child body) (subst (λ (r : Option Row). IsElementRow r) (sym is) tt) (keeps body) (goes body) s good
+  row-keeps child keeps goes id (Some (Elem name simple tried behind body)) is s good =
+      let o : Outcome = element input id (has_elements simple) tried (child body) s in
+      concluded-keeps (At (length s.nodes)) behind s o
+      (element-stands s o.end o.state (element-begins id (has_elements simple) tried (child body) (subst (λ (r : Option Row). IsElementRow r) (sym is) tt)
+      (keeps body) (goes body) s good))
   row-keeps child keeps goes id (Some (Group children)) is s good = group-keeps child keeps children s good
   row-keeps child keeps goes id (Some (Skip bits)) is s good = pass-keeps (s.at + bits) s good (nat_le (s.at + bits) s.at) (nat_le (s.at + bits) s.stop)
   row-keeps child keeps goes id (Some (Align bits)) is s good = pass-keeps (aligned bits s.at) s good (nat_le (aligned bits s.at) s.at) (nat_le (aligned bits s.at) s.stop)
@@ -419,11 +511,15 @@ module _ (input : Input) (table : Table) where
   row-keeps child keeps goes id (Some (Optional most item initiated body)) is s good =
       occurrences-keep (child body) (keeps body) (goes body) initiated most s good
   row-keeps child keeps goes id (Some (ChoiceRow branches initiated)) is s good = choice-keeps child keeps goes initiated branches s good
-  row-keeps child keeps goes id (Some (Test number)) is s good =
-      let same : Follows s s = (good, same_length (length s.nodes)) in
-      test-comes (λ (e : End) (t : State). Follows s t) s
-      (λ marks is. (alike s (record s { marks = marks }) good refl refl, same_length (length s.nodes))) (λ cause. same) (λ cause quantity. same)
-      input table.tests number
+  row-keeps child keeps goes id (Some (Statement number)) is s good =
+      let start : Start = Inside s.inside in
+      let here : Stands table start s s = record { grows = good; longer = omega arith; few = good.few; open_one = good.open_one } in
+      let last = statement-comes input (λ (t : State). Stands table start s t) (λ (e : End) (t : State). Stands table start s t) (tree-tells start s) table
+      number s here in
+      (last.grows, last.longer)
+  row-keeps child keeps goes id (Some (Concluded behind body)) is s good =
+      let o : Outcome = child body s in
+      concluded-keeps (Inside s.inside) behind s o (group-stands s o.end o.state good (keeps body s good))
   row-keeps child keeps goes id (Some (Hidden body)) is s good = keeps body s good
   row-keeps child keeps goes id (Some (Separated policy position initiated slots)) is s good =
       let sequence : Sequence =
@@ -444,8 +540,9 @@ module _ (input : Input) (table : Table) where
   below-keeps zero id s good = (good, same_length (length s.nodes))
   below-keeps (suc n) id s good = below-choice n id (below-keeps n) s good (nat_eq id n)
 
-  pub meaning-tree : (id start : ℕ) → IsTree table (meaning input table id (front_at start)).state.nodes
+  pub meaning-tree : (id start : ℕ) → IsTree table (meaning input table id (front_at table start)).state.nodes
   unfolding meaning
   meaning-tree id start =
-      let first : Grows table (front_at start) = record { tree = λ number node is. absurd (cc); few = omega arith; open_one = λ some. absurd (omega arith) } in
-      (row-keeps (below input table id) (below-keeps id) (below-goes input table id) id (slice_get table.rows id) refl (front_at start) first).0.tree
+      let first : Grows table (front_at table start) =
+      record { tree = λ number node is. absurd (cc); few = omega arith; open_one = λ some. absurd (omega arith) } in
+      (row-keeps (below input table id) (below-keeps id) (below-goes input table id) id (slice_get table.rows id) refl (front_at table start) first).0.tree

@@ -7,6 +7,7 @@ use Rattle.dfdl_looks.specs.Looks.{seen_in}
 use Rattle.dfdl_looks.specs.Tallies.{needs_from, nothing}
 use Rattle.dfdl_grammar.specs.declared.end.End.{End}
 use Rattle.dfdl_grammar.specs.declared.end.End.TheVariants.{Done, Failed, Stopped}
+use Rattle.dfdl_grammar.specs.declared.end.Halt.TheVariants.{Limit}
 use Rattle.dfdl_grammar.specs.States.{Input, State, anchor_at}
 use Rattle.dfdl_grammar.specs.Outcomes.{Outcome, ended, spend, then_do}
 use Rattle.dfdl_grammar.specs.Framing.{has_byte}
@@ -15,7 +16,7 @@ use Rattle.dfdl_grammar.specs.Framing.{has_byte}
 abbrev pub past_byte : ℕ → Reached Bool → (State → Outcome) → State → Outcome
 past_byte window (Told true) next s = next s
 past_byte window (Told false) next s = ended (Failed DataEnds s.at) s
-past_byte window TooFar next s = ended (Stopped Window window) s
+past_byte window TooFar next s = ended (Stopped (Limit Window) window) s
 past_byte window Missing next s = ended Done s
 
 -- so many bytes of the rest of a box from byte k on, each of which is looked at by itself

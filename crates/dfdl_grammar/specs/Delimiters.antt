@@ -14,6 +14,7 @@ use Rattle.dfdl_terms.specs.declared.delimiters.Delimiter.{Delimiter}
 use Rattle.dfdl_terms.specs.declared.delimiters.Delimiters.{Delimiters}
 use Rattle.dfdl_grammar.specs.declared.end.End.{End}
 use Rattle.dfdl_grammar.specs.declared.end.End.TheVariants.{Done, Failed, Stopped}
+use Rattle.dfdl_grammar.specs.declared.end.Halt.TheVariants.{Limit}
 use Rattle.dfdl_grammar.specs.declared.instead.Instead.{Instead}
 use Rattle.dfdl_grammar.specs.declared.instead.Instead.TheVariants.{Nothing, Nil, Empty}
 use Rattle.dfdl_grammar.specs.States.{Input, State, anchor_at}
@@ -53,7 +54,7 @@ abbrev pub passed_text : ParseCause → ℕ → ℕ → Reached Longest → Stat
 passed_text cause place window (Told (Text which bits)) s =
     if nat_eq which place && nat_lt 0 bits then ended Done (record s { at = aligned 8 s.at + bits }) else ended (Failed cause s.at) s
 passed_text cause place window (Told NoText) s = ended (Failed cause s.at) s
-passed_text cause place window TooFar s = ended (Stopped Window window) s
+passed_text cause place window TooFar s = ended (Stopped (Limit Window) window) s
 passed_text cause place window Missing s = ended Done s
 
 -- a text of the list at a place among some lists: the longest of all their texts has to be one of it

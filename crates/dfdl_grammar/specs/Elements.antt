@@ -6,6 +6,7 @@ use Rattle.dfdl_region.specs.declared.node.Content.TheVariants.{Begun, Complex}
 use Rattle.dfdl_region.specs.Nodes.{with_content}
 use Rattle.dfdl_grammar.specs.declared.end.End.{End}
 use Rattle.dfdl_grammar.specs.declared.end.End.TheVariants.{Done, Failed, Stopped}
+use Rattle.dfdl_grammar.specs.declared.end.Halt.TheVariants.{Limit}
 use Rattle.dfdl_grammar.specs.declared.instead.Instead.{Instead}
 use Rattle.dfdl_grammar.specs.declared.instead.Instead.TheVariants.{Nothing}
 use Rattle.dfdl_grammar.specs.States.{Input, State}
@@ -47,7 +48,7 @@ abbrev pub attempted : Input → ℕ → Bool → (State → Outcome) → Instea
 attempted input id complex body instead s = spend one_row (
     if nat_lt (length s.nodes) input.limits.nodes
     then (let o : Outcome = body (begun id instead s) in close o.end s.inside complex o)
-    else ended (Stopped Nodes input.limits.nodes) s)
+    else ended (Stopped (Limit Nodes) input.limits.nodes) s)
 
 -- an element with what is in it, by its representations
 abbrev pub element : Input → ℕ → Bool → Representations → (State → Outcome) → State → Outcome

@@ -6,6 +6,7 @@ use Rattle.dfdl_looks.specs.Asks.{Ask, Answer, Look, Reached, Told, TooFar, Miss
 use Rattle.dfdl_looks.specs.Looks.{seen_in}
 use Rattle.dfdl_looks.specs.Tallies.{needs_from, nothing}
 use Rattle.dfdl_grammar.specs.declared.end.End.TheVariants.{Done, Failed, Stopped}
+use Rattle.dfdl_grammar.specs.declared.end.Halt.TheVariants.{Limit}
 use Rattle.dfdl_grammar.specs.States.{Input, State, anchor_at}
 use Rattle.dfdl_grammar.specs.Outcomes.{Outcome, ended, spend}
 
@@ -23,7 +24,7 @@ has_byte k = Look k (λ byte. Answer (is_some byte))
 abbrev pub passed : ℕ → ℕ → Reached Bool → State → Outcome
 passed window to (Told true) s = ended Done (record s { at = to })
 passed window to (Told false) s = ended (Failed DataEnds s.at) s
-passed window to TooFar s = ended (Stopped Window window) s
+passed window to TooFar s = ended (Stopped (Limit Window) window) s
 passed window to Missing s = ended Done s
 
 -- fill up to a bit: the byte of its last bit is looked at, and no other one

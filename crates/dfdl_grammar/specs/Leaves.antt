@@ -51,6 +51,7 @@ use Rattle.dfdl_looks.specs.Asks.{Ask, Answer, Reached, Told, TooFar, Missing, R
 use Rattle.dfdl_looks.specs.Looks.{seen_in}
 use Rattle.dfdl_looks.specs.Tallies.{needs_from, nothing}
 use Rattle.dfdl_grammar.specs.declared.end.End.TheVariants.{Done, Failed, Stopped}
+use Rattle.dfdl_grammar.specs.declared.end.Halt.TheVariants.{Limit}
 use Rattle.dfdl_grammar.specs.declared.instead.Instead.{Instead}
 use Rattle.dfdl_grammar.specs.declared.instead.Instead.TheVariants.{Nothing, Nil as InsteadNil, Empty}
 use Rattle.dfdl_grammar.specs.declared.limits.Limits.{Limits}
@@ -404,7 +405,7 @@ hold most content bytes end s =
       text = s.text ++ bytes;
       nodes = with_content s.nodes s.inside (content (length s.text) (length bytes));
     })
-    else ended (Stopped TextLimit most) s
+    else ended (Stopped (Limit TextLimit) most) s
 
 -- what a leaf's reading makes of the state, where its content begins at a bit
 abbrev pub land : Limits → ℕ → Reached Find → State → Outcome
@@ -413,7 +414,7 @@ land limits first (Told (Finds content end)) s =
     ended Done (record s { at = end; nodes = with_content s.nodes s.inside content })
 land limits first (Told (FindsOctets bytes end)) s = hold limits.text content.Octets bytes end s
 land limits first (Told (FindsText bytes end)) s = hold limits.text content.Text bytes end s
-land limits first TooFar s = ended (Stopped Window limits.window) s
+land limits first TooFar s = ended (Stopped (Limit Window) limits.window) s
 land limits first Missing s = ended Done s
 
 -- the leaf of a primitive, which gives the innermost open element its content, one of the values that are nil, if there are these;

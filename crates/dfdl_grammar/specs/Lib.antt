@@ -12,6 +12,7 @@ pub mod Boxes
 pub mod Elements
 pub mod Representations
 pub mod Choices
+pub mod Statements
 pub mod Tests
 pub mod Slots
 pub mod Occurrences

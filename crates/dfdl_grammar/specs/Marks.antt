@@ -1,5 +1,6 @@
 -- Marks are opened, parsing goes back to them, and they are closed. 'Parsing Algorithm'.
 use Rattle.std.specs.Prelude.{◌≡◌, ℕ, nat_le, List, [], ◌∷◌, take, length, Bool, true, false, Option, Some, None, slice_get, if◌then◌else◌}
+use Rattle.dfdl_vars.specs.Marks.{gone_back, mark_of}
 use Rattle.dfdl_region.specs.declared.node.Content.{Content}
 use Rattle.dfdl_region.specs.declared.node.Content.TheVariants.{Begun}
 use Rattle.dfdl_region.specs.declared.node.Node.{Node}
@@ -24,6 +25,7 @@ mark_at s = record {
   text = length s.text;
   inside = s.inside;
   content = content_of (slice_get s.nodes s.inside);
+  variables = mark_of s.variables;
 }
 
 -- the state with such a mark
@@ -71,8 +73,8 @@ unresolved (mark ∷ outer) = record mark { is_resolved = false } ∷ unresolved
 abbrev pub AreSame : List Mark → List Mark → Type 0
 AreSame marks others = unresolved marks ≡ unresolved others
 
--- the state at a mark: the elements that have begun since are gone, so are the bytes of values since, and the element that was open has
--- what it had
+-- the state at a mark: the elements that have begun since are gone, so are the bytes of values since, the element that was open has
+-- what it had, and each variable is set and read as it was
 abbrev pub back_to : Mark → State → State
 back_to mark s = record s {
   at = mark.at;
@@ -80,6 +82,7 @@ back_to mark s = record s {
   nodes = with_content (take mark.nodes s.nodes) mark.inside mark.content;
   text = take mark.text s.text;
   inside = mark.inside;
+  variables = gone_back mark.variables s.variables;
 }
 
 -- the state at the first of these marks, which stays open

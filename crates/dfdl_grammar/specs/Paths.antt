@@ -3,7 +3,7 @@
 use Rattle.std.specs.Prelude.{ℕ, zero, suc, nat_eq, Bool, ◌&&◌, if◌then◌else◌, List, [], ◌++◌, take, codes, decimal, Option, Some, None, slice_get}
 use Rattle.std.specs.List.{count_by}
 use Rattle.dfdl_terms.specs.declared.row.Row.{Row}
-use Rattle.dfdl_terms.specs.declared.row.Row.TheVariants.{Leaf, Elem, Group, Skip, Align, Initiator, Terminator, Separator, Scope, Boxed, PrefixedLeaf, PrefixedBox, Repeat, Optional, Choice, Test, Hidden, Separated}
+use Rattle.dfdl_terms.specs.declared.row.Row.TheVariants.{Leaf, Elem, Group, Skip, Align, Initiator, Terminator, Separator, Scope, Boxed, PrefixedLeaf, PrefixedBox, Repeat, Optional, Choice, Statement, Concluded, Hidden, Separated}
 use Rattle.dfdl_terms.specs.Rows.{Table}
 use Rattle.dfdl_terms.specs.Arrays.{is_item}
 use Rattle.dfdl_region.specs.declared.node.Node.{Node}
@@ -12,7 +12,7 @@ use Rattle.dfdl_region.specs.declared.node.Node.{Node}
 abbrev pub name_of : Option Row → List ℕ
 name_of None = []
 name_of (Some (Leaf prim)) = []
-name_of (Some (Elem name simple tried body)) = name
+name_of (Some (Elem name simple tried behind body)) = name
 name_of (Some (Group children)) = []
 name_of (Some (Skip bits)) = []
 name_of (Some (Align bits)) = []
@@ -26,7 +26,8 @@ name_of (Some (PrefixedBox prefix body)) = []
 name_of (Some (Repeat count body)) = []
 name_of (Some (Optional most item initiated body)) = []
 name_of (Some (Choice branches initiated)) = []
-name_of (Some (Test test)) = []
+name_of (Some (Statement statement)) = []
+name_of (Some (Concluded behind body)) = []
 name_of (Some (Hidden body)) = []
 name_of (Some (Separated policy position initiated slots)) = []
 

@@ -21,6 +21,7 @@ use Rattle.dfdl_looks.specs.Asks.{Reached, Told, TooFar, Missing, Reading, ask}
 use Rattle.dfdl_looks.specs.Looks.{seen_in}
 use Rattle.dfdl_looks.specs.Tallies.{needs_from, nothing}
 use Rattle.dfdl_grammar.specs.declared.end.End.TheVariants.{Done, Failed, Stopped}
+use Rattle.dfdl_grammar.specs.declared.end.Halt.TheVariants.{Limit}
 use Rattle.dfdl_grammar.specs.declared.limits.Limits.{Limits}
 use Rattle.dfdl_grammar.specs.States.{Input, State, anchor}
 use Rattle.dfdl_grammar.specs.Outcomes.{Outcome, ended, spend}
@@ -92,7 +93,7 @@ land_prefix limits own first next (Told (Fails cause)) s = ended (Failed cause (
 land_prefix limits own first next (Told (Finds content end)) s = behind_prefix end next s (units_told own content)
 land_prefix limits own first next (Told (FindsOctets bytes end)) s = behind_prefix end next s None
 land_prefix limits own first next (Told (FindsText bytes end)) s = behind_prefix end next s None
-land_prefix limits own first next TooFar s = ended (Stopped Window limits.window) s
+land_prefix limits own first next TooFar s = ended (Stopped (Limit Window) limits.window) s
 land_prefix limits own first next Missing s = ended Done s
 
 -- a length prefix that is read by a primitive, and what follows it, by the number of units that it tells

@@ -1,7 +1,7 @@
 -- The meaning of each row, by that of the rows inside it, which stand below it. 'DFDL Data Syntax Grammar'.
-use Rattle.std.specs.Prelude.{ℕ, zero, suc, nat_eq, List, [], ◌∷◌, Option, Some, None, slice_get, replicate, if◌then◌else◌}
+use Rattle.std.specs.Prelude.{ℕ, zero, suc, nat_eq, List, [], ◌∷◌, length, Option, Some, None, slice_get, replicate, if◌then◌else◌}
 use Rattle.dfdl_terms.specs.declared.row.Row.{Row}
-use Rattle.dfdl_terms.specs.declared.row.Row.TheVariants.{Leaf, Elem, Group, Skip, Align, Initiator, Terminator, Separator, Scope, Boxed, PrefixedLeaf, PrefixedBox, Repeat, Optional, Choice as ChoiceRow, Test, Hidden, Separated}
+use Rattle.dfdl_terms.specs.declared.row.Row.TheVariants.{Leaf, Elem, Group, Skip, Align, Initiator, Terminator, Separator, Scope, Boxed, PrefixedLeaf, PrefixedBox, Repeat, Optional, Choice as ChoiceRow, Statement, Concluded, Hidden, Separated}
 use Rattle.dfdl_terms.specs.Rows.{Table}
 use Rattle.dfdl_grammar.specs.declared.end.End.TheVariants.{Done}
 use Rattle.dfdl_looks.specs.Tallies.{one_row}
@@ -15,7 +15,8 @@ use Rattle.dfdl_grammar.specs.Elements.{element, has_elements}
 use Rattle.dfdl_grammar.specs.Prefixes.{prefixed_box, prefixed_leaf}
 use Rattle.dfdl_grammar.specs.Choices.{choice}
 use Rattle.dfdl_grammar.specs.Occurrences.{occurrences}
-use Rattle.dfdl_grammar.specs.Tests.{test}
+use Rattle.dfdl_paths.specs.declared.place.Start.TheVariants.{At, Inside}
+use Rattle.dfdl_grammar.specs.Statements.{concluded, statement}
 use Rattle.dfdl_grammar.specs.Slots.{separated}
 
 -- rows one after another
@@ -28,7 +29,8 @@ abbrev pub row : Input → Table → (ℕ → State → Outcome) → ℕ → Opt
 row input table child id None s = ended Done s
 row input table child id (Some (Leaf prim)) s =
     leaf input table.delimiters (nil_values table.primitives s.instead) (slice_get table.primitives (read_by table.primitives s.instead prim)) s
-row input table child id (Some (Elem name simple tried body)) s = element input id (has_elements simple) tried (child body) s
+row input table child id (Some (Elem name simple tried behind body)) s =
+    concluded input.limits table (At (length s.nodes)) behind (element input id (has_elements simple) tried (child body) s)
 row input table child id (Some (Group children)) s = group child children s
 row input table child id (Some (Skip bits)) s = skip input bits s
 row input table child id (Some (Align bits)) s = align input bits s
@@ -45,7 +47,8 @@ row input table child id (Some (PrefixedBox prefix body)) s =
 row input table child id (Some (Repeat count body)) s = group child (replicate count body) s
 row input table child id (Some (Optional most item initiated body)) s = occurrences (child body) initiated most s
 row input table child id (Some (ChoiceRow branches initiated)) s = choice child initiated branches s
-row input table child id (Some (Test number)) s = test input table.tests number s
+row input table child id (Some (Statement number)) s = statement input table number s
+row input table child id (Some (Concluded behind body)) s = concluded input.limits table (Inside s.inside) behind (child body s)
 row input table child id (Some (Hidden body)) s = child body s
 row input table child id (Some (Separated policy position initiated slots)) s =
     separated (record { input = input; delimiters = table.delimiters; child = child; position = position; initiated = initiated }) policy slots s

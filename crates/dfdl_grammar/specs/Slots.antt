@@ -27,6 +27,7 @@ use Rattle.dfdl_terms.specs.declared.delimiters.Delimiters.{Delimiters}
 use Rattle.dfdl_terms.specs.declared.slots.Slot.{Slot}
 use Rattle.dfdl_grammar.specs.declared.end.End.{End}
 use Rattle.dfdl_grammar.specs.declared.end.End.TheVariants.{Done, Failed, Stopped}
+use Rattle.dfdl_grammar.specs.declared.end.Halt.TheVariants.{Limit}
 use Rattle.dfdl_grammar.specs.declared.limits.Limits.{Limits}
 use Rattle.dfdl_grammar.specs.States.{Input, State, anchor}
 use Rattle.dfdl_grammar.specs.Outcomes.{Outcome, ended, spend}
@@ -125,7 +126,7 @@ separator_follows lists place bit stop = and_then (sought_among lists bit stop) 
 -- what a question that leaves the state where it is comes to
 abbrev pub told : Limits → (Bool → State → Outcome) → Reached Bool → State → Outcome
 told limits next (Told answer) s = next answer s
-told limits next TooFar s = ended (Stopped Window limits.window) s
+told limits next TooFar s = ended (Stopped (Limit Window) limits.window) s
 told limits next Missing s = ended Done s
 
 -- a question that leaves the state where it is, and what follows

@@ -1,5 +1,7 @@
 -- What is known while data are parsed. 'Parsing Algorithm'.
 use Rattle.std.specs.Prelude.{ℕ, ◌/◌, List, [], ◌∷◌, if◌then◌else◌}
+use Rattle.dfdl_vars.specs.Kept.{Kept, opened}
+use Rattle.dfdl_terms.specs.Rows.{Table}
 use Rattle.dfdl_region.specs.declared.node.Node.{Node}
 use Rattle.dfdl_grammar.specs.declared.instead.Instead.{Instead}
 use Rattle.dfdl_grammar.specs.declared.instead.Instead.TheVariants.{Nothing}
@@ -14,7 +16,7 @@ pub record Input : Type 0 where
 -- The bit that comes next, the bit at which the innermost box ends, the elements that have begun, the bytes of the strings and
 -- hexBinary values among them, the number of the innermost element that is open, what its content is read by in place of its own
 -- primitive, the lists of the tables whose texts end a content, those of the outermost component first, how many of them stand
--- outside of the innermost box and end nothing in it, and the open marks with the innermost first.
+-- outside of the innermost box and end nothing in it, the open marks with the innermost first, and what is kept of the variables.
 pub record State : Type 0 where
   pub at : ℕ
   pub stop : ℕ
@@ -25,14 +27,26 @@ pub record State : Type 0 where
   pub lists : List ℕ
   pub hidden : ℕ
   pub marks : List Mark
+  pub variables : Kept
 
 -- the bit at which a box would end that is around everything (profile)
 abbrev pub no_box : ℕ
 no_box = 18446744073709551615
 
--- the state at the front of the data
-abbrev pub front : State
-front = record { at = 0; stop = no_box; nodes = []; text = []; inside = 0; instead = Nothing; lists = []; hidden = 0; marks = [] }
+-- the state at the front of the data: each variable begins with its default
+abbrev pub front : Table → State
+front table = record {
+  at = 0;
+  stop = no_box;
+  nodes = [];
+  text = [];
+  inside = 0;
+  instead = Nothing;
+  lists = [];
+  hidden = 0;
+  marks = [];
+  variables = opened table.variables [] 0;
+}
 
 -- the bit of the outermost mark that isn't resolved, or another bit where there is none
 abbrev pub held_from : List Mark → ℕ → ℕ

@@ -2,6 +2,9 @@
 use Rattle.std.specs.Prelude.{◌≡◌, ◌<◌, ◌≤◌, ℕ, List, Some, slice_get}
 use Rattle.dfdl_forms.specs.declared.simple.Simple.{Simple}
 use Rattle.dfdl_terms.specs.declared.row.Primitive.{Primitive}
+use Rattle.dfdl_terms.specs.declared.statement.Calculation.{Calculation as CalculationOf}
+use Rattle.dfdl_terms.specs.declared.statement.Statement.TheVariants.{Calculation}
+use Rattle.dfdl_terms.specs.declared.statement.Statements.{Statements}
 use Rattle.dfdl_terms.specs.declared.row.Row.TheVariants.{Elem}
 use Rattle.dfdl_terms.specs.declared.representations.Representations.{Representations}
 use Rattle.dfdl_terms.specs.Leaves.{ReadsBy}
@@ -23,11 +26,15 @@ IsTree table nodes = (number : ℕ) (node : Node) → slice_get nodes number ≡
 abbrev pub IsInTables : Table → ℕ → Type 0
 IsInTables table prim = (primitive : Primitive) × (slice_get table.primitives prim ≡ Some primitive)
 
--- the body of each element of a simple type reads a value by a primitive of the tables
+-- the statement of this number of the tables is a calculated value
+abbrev pub IsCalculation : Table → ℕ → Type 0
+IsCalculation table number = (calculation : CalculationOf) × (slice_get table.statements number ≡ Some (Calculation calculation))
+
+-- the body of each element of a simple type reads a value by a primitive of the tables, or calculates one
 abbrev pub HasLeaves : Table → Type 0
-HasLeaves table = (id : ℕ) (name : List ℕ) (simple : Simple) (tried : Representations) (body : ℕ)
-    → slice_get table.rows id ≡ Some (Elem name (Some simple) tried body)
-    → ReadsBy table.rows (IsInTables table) body
+HasLeaves table = (id : ℕ) (name : List ℕ) (simple : Simple) (tried : Representations) (behind : Statements) (body : ℕ)
+    → slice_get table.rows id ≡ Some (Elem name (Some simple) tried behind body)
+    → ReadsBy table.rows (IsInTables table) (IsCalculation table) body
 
 -- each of the elements is read
 abbrev pub AreRead : List Node → Type 0

@@ -18,6 +18,7 @@
 //! - Representations: nil, empty and normal, in this order from one place ('DFDL Data Syntax Grammar').
 //! - Choices: branches are tried from one place ('Choices').
 //! - Occurrences: times of an element that are tried, one after another ('Arrays and Optional Elements').
+//! - Statements: tests of expressions, settings of variables and calculated values ('DFDL Schema Component Model').
 //! - Tests: patterns that have to match at the begin of a component ('DFDL Schema Component Model').
 //! - Slots: the slots of a sequence with separators, some of which may be missing ('Sequence Groups').
 //! - Rows: the meaning of each row, by those below it ('DFDL Data Syntax Grammar').
@@ -32,7 +33,7 @@ pub mod laws;
 pub mod limits;
 pub mod mark;
 
-pub use end::End;
+pub use end::{End, Halt};
 pub use instead::Instead;
 pub use limits::Limits;
 pub use mark::Mark;

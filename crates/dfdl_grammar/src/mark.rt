@@ -1,4 +1,5 @@
 use dfdl_region::Content;
+use dfdl_vars::VarMark;
 
 /// A place that parsing can go back to, and what was known there ('Parsing Algorithm').
 #[derive(Debug, Clone, Copy, PartialEq, Eq)]
@@ -21,4 +22,6 @@ pub struct Mark {
     pub inside: u32,
     /// what that element has
     pub content: Content,
+    /// what was kept of the variables
+    pub variables: VarMark,
 }

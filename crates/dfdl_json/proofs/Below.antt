@@ -4,7 +4,7 @@ use Rattle.std.specs.List.{flat_map}
 use Rattle.std.proofs.lemmas.Bool.{cases_lt}
 use Rattle.std.proofs.lemmas.List.Elements.{All-cons, All-nil, All-append}
 use Rattle.dfdl_terms.specs.declared.row.Row.{Row}
-use Rattle.dfdl_terms.specs.declared.row.Row.TheVariants.{Leaf, Elem, Group, Skip, Align, Initiator, Terminator, Separator, Scope, Boxed, PrefixedLeaf, PrefixedBox, Repeat, Optional, Choice, Test, Hidden, Separated}
+use Rattle.dfdl_terms.specs.declared.row.Row.TheVariants.{Leaf, Elem, Group, Skip, Align, Initiator, Terminator, Separator, Scope, Boxed, PrefixedLeaf, PrefixedBox, Repeat, Optional, Choice, Statement, Concluded, Hidden, Separated}
 use Rattle.dfdl_terms.specs.Rows.{IsElementRow, Table}
 use Rattle.dfdl_json.specs.ByRows.{below}
 use Rattle.dfdl_json.specs.Children.{bodies_of, declared_by, elements_in}
@@ -78,16 +78,19 @@ by_kind t row (Some (Optional most item initiated body)) is each =
 by_kind t row (Some (Choice branches initiated)) is each =
     let all = all_below t row (below declared_by [] t.rows row) (below steps_by 0 t.rows row) (λ c. one_below t row c each) branches in
     record { within = all.within; few = omega (arith, all.few); elements = all.elements }
-by_kind t row (Some (Test test)) is each = record { within = All-nil (λ c. c < suc row); few = omega arith; elements = All-nil (λ c. IsElementRow (slice_get t.rows c)) }
+by_kind t row (Some (Statement statement)) is each = record { within = All-nil (λ c. c < suc row); few = omega arith; elements = All-nil (λ c. IsElementRow (slice_get t.rows c)) }
+by_kind t row (Some (Concluded behind body)) is each =
+    let inside = one_below t row body each in
+    record { within = inside.within; few = omega (arith, inside.few); elements = inside.elements }
 by_kind t row (Some (Hidden body)) is each =
     let inside = one_below t row body each in
     record { within = inside.within; few = omega (arith, inside.few); elements = inside.elements }
 by_kind t row (Some (Separated policy position initiated slots)) is each =
     let all = all_below t row (below declared_by [] t.rows row) (below steps_by 0 t.rows row) (λ c. one_below t row c each) (bodies_of slots) in
     record { within = all.within; few = omega (arith, all.few); elements = all.elements }
-by_kind t row (Some (Elem name simple tried body)) is each = record {
+by_kind t row (Some (Elem name simple tried behind body)) is each = record {
   within = All-cons (λ c. c < suc row) row [] (omega arith) (All-nil (λ c. c < suc row));
-  few = omega (arith, row_is steps_by 0 t.rows row (Some (Elem name simple tried body)) is);
+  few = omega (arith, row_is steps_by 0 t.rows row (Some (Elem name simple tried behind body)) is);
   elements = All-cons (λ c. IsElementRow (slice_get t.rows c)) row [] (subst IsElementRow (sym is) tt) (All-nil (λ c. IsElementRow (slice_get t.rows c)));
 }
 by_kind t row (Some (Group children)) is each =
@@ -120,10 +123,11 @@ some_by inside row (Some (PrefixedBox prefix body)) = omega arith
 some_by inside row (Some (Repeat count body)) = omega arith
 some_by inside row (Some (Optional most item initiated body)) = omega arith
 some_by inside row (Some (Choice branches initiated)) = omega arith
-some_by inside row (Some (Test test)) = omega arith
+some_by inside row (Some (Statement statement)) = omega arith
+some_by inside row (Some (Concluded behind body)) = omega arith
 some_by inside row (Some (Hidden body)) = omega arith
 some_by inside row (Some (Separated policy position initiated slots)) = omega arith
-some_by inside row (Some (Elem name simple tried body)) = omega arith
+some_by inside row (Some (Elem name simple tried behind body)) = omega arith
 some_by inside row (Some (Group children)) = omega arith
 
 pub some_steps : (t : Table) (row : ℕ) → 1 ≤ steps_of t row

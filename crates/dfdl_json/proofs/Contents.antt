@@ -7,12 +7,13 @@ use Rattle.serde_json.specs.Find.{get_member}
 use Rattle.serde_json.specs.declared.value.Value.{Value}
 use Rattle.dfdl_forms.specs.declared.simple.Simple.{Simple}
 use Rattle.dfdl_terms.specs.declared.representations.Representations.{Representations}
+use Rattle.dfdl_terms.specs.declared.statement.Statements.{Statements}
 use Rattle.dfdl_terms.specs.declared.delimiters.Delimiter.{Delimiter}
 use Rattle.dfdl_terms.specs.declared.prefix.Prefix.{Prefix}
 use Rattle.dfdl_terms.specs.declared.slots.Slot.{Slot}
 use Rattle.dfdl_separators.specs.declared.policy.SeparatorPosition.{SeparatorPosition}
 use Rattle.dfdl_separators.specs.declared.policy.SeparatorSuppressionPolicy.{SeparatorSuppressionPolicy}
-use Rattle.dfdl_terms.specs.declared.row.Row.TheVariants.{Leaf, Elem, Group, Skip, Align, Initiator, Terminator, Separator, Scope, Boxed, PrefixedLeaf, PrefixedBox, Repeat, Optional, Choice, Test, Hidden, Separated}
+use Rattle.dfdl_terms.specs.declared.row.Row.TheVariants.{Leaf, Elem, Group, Skip, Align, Initiator, Terminator, Separator, Scope, Boxed, PrefixedLeaf, PrefixedBox, Repeat, Optional, Choice, Statement, Concluded, Hidden, Separated}
 use Rattle.dfdl_terms.specs.declared.event.Event.TheVariants.{Start, End}
 use Rattle.dfdl_terms.specs.Rows.{Table}
 use Rattle.dfdl_json.specs.ByRows.{below}
@@ -49,15 +50,15 @@ complex_same t bound f g same row elements within names (object entries) =
     (children_same t bound f g same elements within names entries)
 
 module _ (t : Table) (row : ℕ) (content : Data) (around : Names) where
-  pub simple_says : (name : List ℕ) (kind : Simple) (tried : Representations) (body : ℕ) → slice_get t.rows row ≡ Some (Elem name (Some kind) tried body)
+  pub simple_says : (name : List ℕ) (kind : Simple) (tried : Representations) (behind : Statements) (body : ℕ) → slice_get t.rows row ≡ Some (Elem name (Some kind) tried behind body)
       → findings t row content around ≡ simple_findings row (name ∷ around) (value_in kind content)
-  simple_says name kind tried body is = ap (λ f. f content around) (row_is (findings_by t) (λ c a. []) t.rows row (Some (Elem name (Some kind) tried body)) is)
+  simple_says name kind tried behind body is = ap (λ f. f content around) (row_is (findings_by t) (λ c a. []) t.rows row (Some (Elem name (Some kind) tried behind body)) is)
 
-  pub complex_says : (name : List ℕ) (tried : Representations) (body : ℕ) → slice_get t.rows row ≡ Some (Elem name None tried body) → body < row
+  pub complex_says : (name : List ℕ) (tried : Representations) (behind : Statements) (body : ℕ) → slice_get t.rows row ≡ Some (Elem name None tried behind body) → body < row
       → findings t row content around ≡ complex_findings t (findings t) row (elements_in t body) (name ∷ around) content
-  complex_says name tried body is less =
+  complex_says name tried behind body is less =
       let within : All (λ c. c < row) (elements_in t body) = λ k d here. omega (arith, less, (are_below t body).within k d here) in
-      ap (λ f. f content around) (row_is (findings_by t) (λ c a. []) t.rows row (Some (Elem name None tried body)) is)
+      ap (λ f. f content around) (row_is (findings_by t) (λ c a. []) t.rows row (Some (Elem name None tried behind body)) is)
       ∙ complex_same t row (below (findings_by t) (λ c a. []) t.rows row) (findings t) (λ c under. below_is (findings_by t) (λ d a. []) t.rows row c under) row
       (elements_in t body) within (name ∷ around) content
 
@@ -100,8 +101,11 @@ module _ (t : Table) (row : ℕ) (content : Data) (around : Names) where
   pub choice_says : (branches : List ℕ) (initiated : Bool) → slice_get t.rows row ≡ Some (Choice branches initiated) → findings t row content around ≡ []
   choice_says branches initiated is = ap (λ f. f content around) (row_is (findings_by t) (λ c a. []) t.rows row (Some (Choice branches initiated)) is)
 
-  pub test_says : (test : ℕ) → slice_get t.rows row ≡ Some (Test test) → findings t row content around ≡ []
-  test_says test is = ap (λ f. f content around) (row_is (findings_by t) (λ c a. []) t.rows row (Some (Test test)) is)
+  pub statement_says : (statement : ℕ) → slice_get t.rows row ≡ Some (Statement statement) → findings t row content around ≡ []
+  statement_says statement is = ap (λ f. f content around) (row_is (findings_by t) (λ c a. []) t.rows row (Some (Statement statement)) is)
+
+  pub concluded_says : (behind : Statements) (body : ℕ) → slice_get t.rows row ≡ Some (Concluded behind body) → findings t row content around ≡ []
+  concluded_says behind body is = ap (λ f. f content around) (row_is (findings_by t) (λ c a. []) t.rows row (Some (Concluded behind body)) is)
 
   pub hidden_says : (body : ℕ) → slice_get t.rows row ≡ Some (Hidden body) → findings t row content around ≡ []
   hidden_says body is = ap (λ f. f content around) (row_is (findings_by t) (λ c a. []) t.rows row (Some (Hidden body)) is)
@@ -176,19 +180,19 @@ module _ (t : Table) (row : ℕ) (content : Data) (around : Names) (found : Foun
       → fold noted found (fs ++ coming t tasks contents around) ≡ fold noted found (findings t row content around ++ coming t tasks contents around)
   says_then fs is = ap (λ xs. fold noted found (xs ++ coming t tasks contents around)) (sym is)
 
-  pub simple_comes : (name : List ℕ) (kind : Simple) (tried : Representations) (body : ℕ) (now : Found) → slice_get t.rows row ≡ Some (Elem name (Some kind) tried body)
+  pub simple_comes : (name : List ℕ) (kind : Simple) (tried : Representations) (behind : Statements) (body : ℕ) (now : Found) → slice_get t.rows row ≡ Some (Elem name (Some kind) tried behind body)
       → now ≡ fold noted found (simple_findings row (name ∷ around) (value_in kind content))
       → Comes (fold noted now (coming t tasks contents around))
-  simple_comes name kind tried body now is now_is =
+  simple_comes name kind tried behind body now is now_is =
       ap (λ f. fold noted f (coming t tasks contents around)) now_is
       ∙ (sym (fold-append noted found (simple_findings row (name ∷ around) (value_in kind content)) (coming t tasks contents around))
-      ∙ says_then (simple_findings row (name ∷ around) (value_in kind content)) (simple_says t row content around name kind tried body is))
+      ∙ says_then (simple_findings row (name ∷ around) (value_in kind content)) (simple_says t row content around name kind tried behind body is))
 
-  pub complex_comes : (name : List ℕ) (tried : Representations) (body : ℕ) (now : Found) → slice_get t.rows row ≡ Some (Elem name None tried body) → body < row
+  pub complex_comes : (name : List ℕ) (tried : Representations) (behind : Statements) (body : ℕ) (now : Found) → slice_get t.rows row ≡ Some (Elem name None tried behind body) → body < row
       → now ≡ fold noted found (complex_findings t (findings t) row (elements_in t body) (name ∷ around) content ++ coming t tasks contents around)
       → Comes now
-  complex_comes name tried body now is less now_is =
-      now_is ∙ says_then (complex_findings t (findings t) row (elements_in t body) (name ∷ around) content) (complex_says t row content around name tried body is less)
+  complex_comes name tried behind body now is less now_is =
+      now_is ∙ says_then (complex_findings t (findings t) row (elements_in t body) (name ∷ around) content) (complex_says t row content around name tried behind body is less)
 
   -- of a row that says nothing
   pub bare_comes : findings t row content around ≡ [] → Comes (fold noted found (coming t tasks contents around))
@@ -217,6 +221,6 @@ left_same t found tasks now contents with around names tasks_are contents_are na
 pub simple_less : (t : Table) (row : ℕ) (tasks now : List Task) → now ≡ tasks → steps_left t now < steps_of t row + steps_left t tasks
 simple_less t row tasks now are = rw are (less_left t row tasks)
 
-pub complex_less : (t : Table) (row : ℕ) (name : List ℕ) (simple : Option Simple) (tried : Representations) (body : ℕ) (tasks now : List Task) → slice_get t.rows row ≡ Some (Elem name simple tried body)
+pub complex_less : (t : Table) (row : ℕ) (name : List ℕ) (simple : Option Simple) (tried : Representations) (behind : Statements) (body : ℕ) (tasks now : List Task) → slice_get t.rows row ≡ Some (Elem name simple tried behind body)
     → body < row → steps_left t now < 2 + steps_of t body + steps_left t tasks → steps_left t now < steps_of t row + steps_left t tasks
-complex_less t row name simple tried body tasks now is less few = omega (arith, elem_steps t row name simple tried body is less, few)
+complex_less t row name simple tried behind body tasks now is less few = omega (arith, elem_steps t row name simple tried behind body is less, few)

@@ -6,13 +6,14 @@ use Rattle.std.proofs.lemmas.List.{append-nil}
 use Rattle.std.proofs.lemmas.List.Elements.{All-cons, All-head, All-nil, All-tail}
 use Rattle.dfdl_forms.specs.declared.simple.Simple.{Simple}
 use Rattle.dfdl_terms.specs.declared.representations.Representations.{Representations}
+use Rattle.dfdl_terms.specs.declared.statement.Statements.{Statements}
 use Rattle.dfdl_terms.specs.declared.delimiters.Delimiter.{Delimiter}
 use Rattle.dfdl_terms.specs.declared.prefix.Prefix.{Prefix}
 use Rattle.dfdl_terms.specs.declared.slots.Slot.{Slot}
 use Rattle.dfdl_separators.specs.declared.policy.SeparatorPosition.{SeparatorPosition}
 use Rattle.dfdl_separators.specs.declared.policy.SeparatorSuppressionPolicy.{SeparatorSuppressionPolicy}
 use Rattle.dfdl_terms.specs.declared.row.Row.{Row}
-use Rattle.dfdl_terms.specs.declared.row.Row.TheVariants.{Leaf, Elem, Group, Skip, Align, Initiator, Terminator, Separator, Scope, Boxed, PrefixedLeaf, PrefixedBox, Repeat, Optional, Choice, Test, Hidden, Separated}
+use Rattle.dfdl_terms.specs.declared.row.Row.TheVariants.{Leaf, Elem, Group, Skip, Align, Initiator, Terminator, Separator, Scope, Boxed, PrefixedLeaf, PrefixedBox, Repeat, Optional, Choice, Statement, Concluded, Hidden, Separated}
 use Rattle.dfdl_terms.specs.Rows.{Table, ChildrenBelow}
 use Rattle.dfdl_json.specs.ByRows.{below}
 use Rattle.dfdl_json.specs.Children.{bodies_of, declared_by, elements_in}
@@ -66,8 +67,12 @@ module _ (t : Table) (row : ℕ) where
   optional_declares most item initiated body is less =
       row_is declared_by [] t.rows row (Some (Optional most item initiated body)) is ∙ below_is declared_by [] t.rows row body less
 
-  pub test_declares : (test : ℕ) → slice_get t.rows row ≡ Some (Test test) → elements_in t row ≡ []
-  test_declares test is = row_is declared_by [] t.rows row (Some (Test test)) is
+  pub statement_declares : (statement : ℕ) → slice_get t.rows row ≡ Some (Statement statement) → elements_in t row ≡ []
+  statement_declares statement is = row_is declared_by [] t.rows row (Some (Statement statement)) is
+
+  pub concluded_declares : (behind : Statements) (body : ℕ) → slice_get t.rows row ≡ Some (Concluded behind body) → body < row → elements_in t row ≡ elements_in t body
+  concluded_declares behind body is less =
+      row_is declared_by [] t.rows row (Some (Concluded behind body)) is ∙ below_is declared_by [] t.rows row body less
 
   pub hidden_declares : (body : ℕ) → slice_get t.rows row ≡ Some (Hidden body) → body < row → elements_in t row ≡ elements_in t body
   hidden_declares body is less =
@@ -80,8 +85,8 @@ module _ (t : Table) (row : ℕ) where
       row_is declared_by [] t.rows row (Some (Separated policy position initiated slots)) is
       ∙ flat_map_same row (below declared_by [] t.rows row) (elements_in t) (λ b less. below_is declared_by [] t.rows row b less) (bodies_of slots) below_row
 
-  pub elem_declares : (name : List ℕ) (simple : Option Simple) (tried : Representations) (body : ℕ) → slice_get t.rows row ≡ Some (Elem name simple tried body) → elements_in t row ≡ row ∷ []
-  elem_declares name simple tried body is = row_is declared_by [] t.rows row (Some (Elem name simple tried body)) is
+  pub elem_declares : (name : List ℕ) (simple : Option Simple) (tried : Representations) (behind : Statements) (body : ℕ) → slice_get t.rows row ≡ Some (Elem name simple tried behind body) → elements_in t row ≡ row ∷ []
+  elem_declares name simple tried behind body is = row_is declared_by [] t.rows row (Some (Elem name simple tried behind body)) is
 
   pub group_declares : (children : List ℕ) → slice_get t.rows row ≡ Some (Group children) → All (λ c. c < row) children
       → elements_in t row ≡ flat_map (elements_in t) children
@@ -147,8 +152,12 @@ module _ (t : Table) (row : ℕ) where
       row_is steps_by 0 t.rows row (Some (Choice branches initiated)) is
       ∙ ap (λ ns. 1 + total ns) (map_same row (below steps_by 0 t.rows row) (steps_of t) (λ b less. below_is steps_by 0 t.rows row b less) branches below_row)
 
-  pub test_steps : (test : ℕ) → slice_get t.rows row ≡ Some (Test test) → steps_of t row ≡ 1
-  test_steps test is = row_is steps_by 0 t.rows row (Some (Test test)) is
+  pub statement_steps : (statement : ℕ) → slice_get t.rows row ≡ Some (Statement statement) → steps_of t row ≡ 1
+  statement_steps statement is = row_is steps_by 0 t.rows row (Some (Statement statement)) is
+
+  pub concluded_steps : (behind : Statements) (body : ℕ) → slice_get t.rows row ≡ Some (Concluded behind body) → body < row → steps_of t row ≡ 1 + steps_of t body
+  concluded_steps behind body is less =
+      row_is steps_by 0 t.rows row (Some (Concluded behind body)) is ∙ ap (λ n. 1 + n) (below_is steps_by 0 t.rows row body less)
 
   pub hidden_steps : (body : ℕ) → slice_get t.rows row ≡ Some (Hidden body) → body < row → steps_of t row ≡ 1 + steps_of t body
   hidden_steps body is less =
@@ -161,10 +170,10 @@ module _ (t : Table) (row : ℕ) where
       row_is steps_by 0 t.rows row (Some (Separated policy position initiated slots)) is
       ∙ ap (λ ns. 1 + total ns) (map_same row (below steps_by 0 t.rows row) (steps_of t) (λ b less. below_is steps_by 0 t.rows row b less) (bodies_of slots) below_row)
 
-  pub elem_steps : (name : List ℕ) (simple : Option Simple) (tried : Representations) (body : ℕ) → slice_get t.rows row ≡ Some (Elem name simple tried body) → body < row
+  pub elem_steps : (name : List ℕ) (simple : Option Simple) (tried : Representations) (behind : Statements) (body : ℕ) → slice_get t.rows row ≡ Some (Elem name simple tried behind body) → body < row
       → steps_of t row ≡ 2 + steps_of t body
-  elem_steps name simple tried body is less =
-      row_is steps_by 0 t.rows row (Some (Elem name simple tried body)) is ∙ ap (λ n. 2 + n) (below_is steps_by 0 t.rows row body less)
+  elem_steps name simple tried behind body is less =
+      row_is steps_by 0 t.rows row (Some (Elem name simple tried behind body)) is ∙ ap (λ n. 2 + n) (below_is steps_by 0 t.rows row body less)
 
   pub group_steps : (children : List ℕ) → slice_get t.rows row ≡ Some (Group children) → All (λ c. c < row) children
       → steps_of t row ≡ 1 + total (map (steps_of t) children)
@@ -181,14 +190,17 @@ pub there : {A : Type 0} (o : Option A) (r s : A) → Some r ≡ o → r ≡ s �
 there o r s is kind = sym is ∙ ap Some kind
 
 -- the children of a row are below it
-pub below_elem : (bound : ℕ) (r : Row) (name : List ℕ) (simple : Option Simple) (tried : Representations) (body : ℕ) → r ≡ Elem name simple tried body → ChildrenBelow bound r → body < bound
-below_elem bound r name simple tried body is below_row = subst (λ (x : Row). ChildrenBelow bound x) is below_row
+pub below_elem : (bound : ℕ) (r : Row) (name : List ℕ) (simple : Option Simple) (tried : Representations) (behind : Statements) (body : ℕ) → r ≡ Elem name simple tried behind body → ChildrenBelow bound r → body < bound
+below_elem bound r name simple tried behind body is below_row = subst (λ (x : Row). ChildrenBelow bound x) is below_row
 
 pub below_box : (bound : ℕ) (r : Row) (bits body : ℕ) → r ≡ Boxed bits body → ChildrenBelow bound r → body < bound
 below_box bound r bits body is below_row = subst (λ (x : Row). ChildrenBelow bound x) is below_row
 
 pub below_scope : (bound : ℕ) (r : Row) (list body : ℕ) → r ≡ Scope list body → ChildrenBelow bound r → body < bound
 below_scope bound r list body is below_row = subst (λ (x : Row). ChildrenBelow bound x) is below_row
+
+pub below_concluded : (bound : ℕ) (r : Row) (behind : Statements) (body : ℕ) → r ≡ Concluded behind body → ChildrenBelow bound r → body < bound
+below_concluded bound r behind body is below_row = subst (λ (x : Row). ChildrenBelow bound x) is below_row
 
 pub below_prefixed_box : (bound : ℕ) (r : Row) (prefix : Prefix) (body : ℕ) → r ≡ PrefixedBox prefix body → ChildrenBelow bound r → body < bound
 below_prefixed_box bound r prefix body is below_row = subst (λ (x : Row). ChildrenBelow bound x) is below_row
@@ -234,17 +246,17 @@ on_ok_four (Err e) P Q R S X p q r s f = tt
 
 -- one step of the walk over declared elements
 module _ (t : Table) (row : ℕ) (elements left : List ℕ) where
-  pub elem_visited : (name : List ℕ) (simple : Option Simple) (tried : Representations) (body : ℕ) (now : List ℕ) → slice_get t.rows row ≡ Some (Elem name simple tried body)
+  pub elem_visited : (name : List ℕ) (simple : Option Simple) (tried : Representations) (behind : Statements) (body : ℕ) (now : List ℕ) → slice_get t.rows row ≡ Some (Elem name simple tried behind body)
       → now ≡ elements ++ row ∷ []
       → now ++ flat_map (elements_in t) left ≡ elements ++ (elements_in t row ++ flat_map (elements_in t) left)
-  elem_visited name simple tried body now is now_is =
+  elem_visited name simple tried behind body now is now_is =
       ap (λ xs. xs ++ flat_map (elements_in t) left) now_is
       ∙ (append_assoc elements (row ∷ []) (flat_map (elements_in t) left)
-      ∙ ap (λ xs. elements ++ (xs ++ flat_map (elements_in t) left)) (sym (elem_declares t row name simple tried body is)))
+      ∙ ap (λ xs. elements ++ (xs ++ flat_map (elements_in t) left)) (sym (elem_declares t row name simple tried behind body is)))
 
-  pub elem_less : (name : List ℕ) (simple : Option Simple) (tried : Representations) (body : ℕ) → slice_get t.rows row ≡ Some (Elem name simple tried body) → body < row
+  pub elem_less : (name : List ℕ) (simple : Option Simple) (tried : Representations) (behind : Statements) (body : ℕ) → slice_get t.rows row ≡ Some (Elem name simple tried behind body) → body < row
       → total (map (steps_of t) left) < steps_of t row + total (map (steps_of t) left)
-  elem_less name simple tried body is less = omega (arith, elem_steps t row name simple tried body is less)
+  elem_less name simple tried behind body is less = omega (arith, elem_steps t row name simple tried behind body is less)
 
   -- of a row that declares what its parts do
   pub parts_visited : (parts now : List ℕ) → elements_in t row ≡ flat_map (elements_in t) parts → now ≡ parts ++ left

@@ -9,8 +9,9 @@ use Rattle.serde_json.specs.Find.{get_member}
 use Rattle.dfdl_forms.specs.declared.simple.Simple.{Simple}
 use Rattle.dfdl_value.specs.declared.value.Value.{Value}
 use Rattle.dfdl_terms.specs.declared.representations.Representations.{Representations}
+use Rattle.dfdl_terms.specs.declared.statement.Statements.{Statements}
 use Rattle.dfdl_terms.specs.declared.row.Row.{Row}
-use Rattle.dfdl_terms.specs.declared.row.Row.TheVariants.{Leaf, Elem, Group, Skip, Align, Initiator, Terminator, Separator, Scope, Boxed, PrefixedLeaf, PrefixedBox, Repeat, Optional, Choice, Test, Hidden, Separated}
+use Rattle.dfdl_terms.specs.declared.row.Row.TheVariants.{Leaf, Elem, Group, Skip, Align, Initiator, Terminator, Separator, Scope, Boxed, PrefixedLeaf, PrefixedBox, Repeat, Optional, Choice, Statement, Concluded, Hidden, Separated}
 use Rattle.dfdl_terms.specs.declared.event.Event.{Event}
 use Rattle.dfdl_terms.specs.declared.event.Event.TheVariants.{Start, End}
 use Rattle.dfdl_terms.specs.Rows.{HasElementLast, IsElementRow, Nests, Table}
@@ -70,16 +71,16 @@ none_unknown t elements names entries none =
       | inr unknown ↦ rw unknown (λ n. absurd (cc))
     ]) none
 
-complex_fits : (t : Table) (row : ℕ) (name : List ℕ) (tried : Representations) (body : ℕ) (names : Names) (content : Data) → ((c : ℕ) → c < row → FitsAt t c)
-    → slice_get t.rows row ≡ Some (Elem name None tried body) → body < row
+complex_fits : (t : Table) (row : ℕ) (name : List ℕ) (tried : Representations) (behind : Statements) (body : ℕ) (names : Names) (content : Data) → ((c : ℕ) → c < row → FitsAt t c)
+    → slice_get t.rows row ≡ Some (Elem name None tried behind body) → body < row
     → counting (complex_findings t (findings t) row (elements_in t body) names content) ≡ None
     → IsElement t row (events_said (complex_findings t (findings t) row (elements_in t body) names content))
-complex_fits t row name tried body names null each is less none = absurd (cc)
-complex_fits t row name tried body names (boolean b) each is less none = absurd (cc)
-complex_fits t row name tried body names (number n) each is less none = absurd (cc)
-complex_fits t row name tried body names (string text) each is less none = absurd (cc)
-complex_fits t row name tried body names (array items) each is less none = absurd (cc)
-complex_fits t row name tried body names (object entries) each is less none =
+complex_fits t row name tried behind body names null each is less none = absurd (cc)
+complex_fits t row name tried behind body names (boolean b) each is less none = absurd (cc)
+complex_fits t row name tried behind body names (number n) each is less none = absurd (cc)
+complex_fits t row name tried behind body names (string text) each is less none = absurd (cc)
+complex_fits t row name tried behind body names (array items) each is less none = absurd (cc)
+complex_fits t row name tried behind body names (object entries) each is less none =
     let elements = elements_in t body in
     let unknown = unknown_findings t elements names entries in
     let inside = children_findings t (findings t) elements names entries in
@@ -89,13 +90,13 @@ complex_fits t row name tried body names (object entries) each is less none =
     let said : events_said (unknown ++ (inside ++ Says End ∷ [])) ≡ events_said inside ++ End ∷ []
     = ap (λ fs. events_said (fs ++ (inside ++ Says End ∷ []))) (none_unknown t elements names entries after_unknown.0) ∙ said_both inside (Says End ∷ []) in
     subst (λ (es : List Event). IsElement t row (Start row ∷ es)) (sym said)
-    (complex row name tried body (events_said inside) is (children_fit t row each elements under (are_below t body).elements names entries in_children.0))
+    (complex row name tried behind body (events_said inside) is (children_fit t row each elements under (are_below t body).elements names entries in_children.0))
 
-simple_fits : (t : Table) (row : ℕ) (name : List ℕ) (kind : Simple) (tried : Representations) (body : ℕ) (names : Names) (r : Result Value InfosetCause)
-    → slice_get t.rows row ≡ Some (Elem name (Some kind) tried body) → ((v : Value) → r ≡ Ok v → IsOfType kind v)
+simple_fits : (t : Table) (row : ℕ) (name : List ℕ) (kind : Simple) (tried : Representations) (behind : Statements) (body : ℕ) (names : Names) (r : Result Value InfosetCause)
+    → slice_get t.rows row ≡ Some (Elem name (Some kind) tried behind body) → ((v : Value) → r ≡ Ok v → IsOfType kind v)
     → counting (simple_findings row names r) ≡ None → IsElement t row (events_said (simple_findings row names r))
-simple_fits t row name kind tried body names (Ok value) is typed none = simple row name kind tried body value is (typed value refl)
-simple_fits t row name kind tried body names (Err cause) is typed none = absurd (cc)
+simple_fits t row name kind tried behind body names (Ok value) is typed none = simple row name kind tried behind body value is (typed value refl)
+simple_fits t row name kind tried behind body names (Err cause) is typed none = absurd (cc)
 
 fits_by : (t : Table) → Nests t.rows → (row : ℕ) → ((c : ℕ) → c < row → FitsAt t c) → (r : Option Row) → slice_get t.rows row ≡ r → FitsAt t row
 fits_by t nests row each None is content around element none = absurd (subst IsElementRow is element)
@@ -112,19 +113,20 @@ fits_by t nests row each (Some (PrefixedBox prefix body)) is content around elem
 fits_by t nests row each (Some (Repeat count body)) is content around element none = absurd (subst IsElementRow is element)
 fits_by t nests row each (Some (Optional most item initiated body)) is content around element none = absurd (subst IsElementRow is element)
 fits_by t nests row each (Some (Choice branches initiated)) is content around element none = absurd (subst IsElementRow is element)
-fits_by t nests row each (Some (Test test)) is content around element none = absurd (subst IsElementRow is element)
+fits_by t nests row each (Some (Statement statement)) is content around element none = absurd (subst IsElementRow is element)
+fits_by t nests row each (Some (Concluded behind body)) is content around element none = absurd (subst IsElementRow is element)
 fits_by t nests row each (Some (Hidden body)) is content around element none = absurd (subst IsElementRow is element)
 fits_by t nests row each (Some (Separated policy position initiated slots)) is content around element none = absurd (subst IsElementRow is element)
 fits_by t nests row each (Some (Group children)) is content around element none = absurd (subst IsElementRow is element)
-fits_by t nests row each (Some (Elem name (Some kind) tried body)) is content around element none =
-    let says = simple_says t row content around name kind tried body is in
+fits_by t nests row each (Some (Elem name (Some kind) tried behind body)) is content around element none =
+    let says = simple_says t row content around name kind tried behind body is in
     subst (λ (fs : List Finding). IsElement t row (events_said fs)) (sym says)
-    (simple_fits t row name kind tried body (name ∷ around) (value_in kind content) is (value_typed kind content) (ap counting (sym says) ∙ none))
-fits_by t nests row each (Some (Elem name None tried body)) is content around element none =
-    let less : body < row = nests row (Elem name None tried body) (slice_get_within t.rows row (Elem name None tried body) is) is in
-    let says = complex_says t row content around name tried body is less in
+    (simple_fits t row name kind tried behind body (name ∷ around) (value_in kind content) is (value_typed kind content) (ap counting (sym says) ∙ none))
+fits_by t nests row each (Some (Elem name None tried behind body)) is content around element none =
+    let less : body < row = nests row (Elem name None tried behind body) (slice_get_within t.rows row (Elem name None tried behind body) is) is in
+    let says = complex_says t row content around name tried behind body is less in
     subst (λ (fs : List Finding). IsElement t row (events_said fs)) (sym says)
-    (complex_fits t row name tried body (name ∷ around) content each is less (ap counting (sym says) ∙ none))
+    (complex_fits t row name tried behind body (name ∷ around) content each is less (ap counting (sym says) ∙ none))
 
 findings_fit : (t : Table) → Nests t.rows → (row : ℕ) → FitsAt t row
 findings_fit t nests row = by_numbers (FitsAt t) (λ id each. fits_by t nests id each (slice_get t.rows id) refl) (suc row) row (omega arith)

@@ -8,7 +8,7 @@ use Rattle.std.proofs.lemmas.List.Elements.{All-cons, All-nil, All-head, All-tai
 use Rattle.std.proofs.lemmas.List.Folds.{list_any_more, list_any-append}
 use Rattle.std.proofs.lemmas.Option.{get_or_from_slice_get}
 use Rattle.dfdl_terms.specs.declared.row.Row.{Row}
-use Rattle.dfdl_terms.specs.declared.row.Row.TheVariants.{Leaf, Elem, Group, Skip, Align, Initiator, Terminator, Separator, Scope, Boxed, PrefixedLeaf, PrefixedBox, Repeat, Optional, Choice, Test, Hidden, Separated}
+use Rattle.dfdl_terms.specs.declared.row.Row.TheVariants.{Leaf, Elem, Group, Skip, Align, Initiator, Terminator, Separator, Scope, Boxed, PrefixedLeaf, PrefixedBox, Repeat, Optional, Choice, Statement, Concluded, Hidden, Separated}
 use Rattle.dfdl_terms.specs.Arrays.{is_marked}
 use Rattle.dfdl_terms.specs.Rows.{ChildrenBelow, Table}
 use Rattle.dfdl_json.specs.Children.{bodies_of, elements_in}
@@ -303,9 +303,11 @@ row_passes t k marks less (Terminator delimiter separators) is below =
 row_passes t k marks less Separator is below = bare t k Separator marks less (declares.separator_declares t k is) (λ c. refl)
 row_passes t k marks less (PrefixedLeaf prefix prim) is below =
     bare t k (PrefixedLeaf prefix prim) marks less (declares.prefixed_leaf_declares t k prefix prim is) (λ c. refl)
-row_passes t k marks less (Test test) is below = bare t k (Test test) marks less (declares.test_declares t k test is) (λ c. refl)
+row_passes t k marks less (Statement statement) is below = bare t k (Statement statement) marks less (declares.statement_declares t k statement is) (λ c. refl)
 row_passes t k marks less (Scope list body) is below =
     through t k (Scope list body) marks body less below (declares.scope_declares t k list body is below) (λ c. refl)
+row_passes t k marks less (Concluded behind body) is below =
+    through t k (Concluded behind body) marks body less below (declares.concluded_declares t k behind body is below) (λ c. refl)
 row_passes t k marks less (Boxed bits body) is below =
     through t k (Boxed bits body) marks body less below (declares.box_declares t k bits body is below) (λ c. refl)
 row_passes t k marks less (PrefixedBox prefix body) is below =
@@ -325,8 +327,8 @@ row_passes t k marks less (Separated policy position initiated slots) is below =
 row_passes t k marks less (Hidden body) is below =
     let same = declares.hidden_declares t k body is below in
     hidden_gone t k (Hidden body) marks (body ∷ []) less (one_under k body below) (with_body t k body same) (λ c. ap (list_any (eqb c)) (sym same))
-row_passes t k marks less (Elem name simple tried body) is below =
-    stays t k (Elem name simple tried body) marks (λ c. refl) (λ marked. declares.elem_declares t k name simple tried body is)
+row_passes t k marks less (Elem name simple tried behind body) is below =
+    stays t k (Elem name simple tried behind body) marks (λ c. refl) (λ marked. declares.elem_declares t k name simple tried behind body is)
 
 -- the next row, towards the first
 pub next_passed : (t : Table) (at k : ℕ) (r : Row) (marks now : List Bool) → at ≡ suc k → slice_get t.rows k ≡ Some r → ChildrenBelow k r

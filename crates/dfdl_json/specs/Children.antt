@@ -3,7 +3,7 @@ use Rattle.std.specs.Prelude.{ℕ, ◌-◌, List, [], ◌∷◌, length, map, Op
 use Rattle.std.specs.List.{flat_map}
 use Rattle.dfdl_terms.specs.declared.slots.Slot.{Slot}
 use Rattle.dfdl_terms.specs.declared.row.Row.{Row}
-use Rattle.dfdl_terms.specs.declared.row.Row.TheVariants.{Leaf, Elem, Group, Skip, Align, Initiator, Terminator, Separator, Scope, Boxed, PrefixedLeaf, PrefixedBox, Repeat, Optional, Choice, Test, Hidden, Separated}
+use Rattle.dfdl_terms.specs.declared.row.Row.TheVariants.{Leaf, Elem, Group, Skip, Align, Initiator, Terminator, Separator, Scope, Boxed, PrefixedLeaf, PrefixedBox, Repeat, Optional, Choice, Statement, Concluded, Hidden, Separated}
 use Rattle.dfdl_terms.specs.Rows.{Table}
 use Rattle.dfdl_json.specs.ByRows.{by_rows}
 
@@ -13,7 +13,7 @@ root_row t = length t.rows - 1
 
 -- the local name of a row's element; other rows have none
 abbrev pub name_in : Option Row → List ℕ
-name_in (Some (Elem name simple tried body)) = name
+name_in (Some (Elem name simple tried behind body)) = name
 name_in _ = []
 
 -- the local name of the element of this row
@@ -26,9 +26,10 @@ bodies_of slots = map (λ slot. slot.body) slots
 
 -- The elements that a row declares, where `inside` has those of the rows below it: an element declares itself, a
 -- group what its children declare, a choice what its branches do, slots what their rows do, and a scope, a box, with or without a prefix,
--- a hidden row and a repetition, tried or not, what its body declares. No other row declares anything.
+-- a hidden row, a repetition, tried or not, and a row behind which statements are done what its body declares. No other row declares
+-- anything.
 abbrev pub declared_by : (ℕ → List ℕ) → ℕ → Option Row → List ℕ
-declared_by inside row (Some (Elem name simple tried body)) = row ∷ []
+declared_by inside row (Some (Elem name simple tried behind body)) = row ∷ []
 declared_by inside row (Some (Group children)) = flat_map inside children
 declared_by inside row (Some (Leaf prim)) = []
 declared_by inside row (Some (Skip bits)) = []
@@ -43,7 +44,8 @@ declared_by inside row (Some (PrefixedBox prefix body)) = inside body
 declared_by inside row (Some (Repeat count body)) = inside body
 declared_by inside row (Some (Optional most item initiated body)) = inside body
 declared_by inside row (Some (Choice branches initiated)) = flat_map inside branches
-declared_by inside row (Some (Test test)) = []
+declared_by inside row (Some (Statement statement)) = []
+declared_by inside row (Some (Concluded behind body)) = inside body
 declared_by inside row (Some (Hidden body)) = inside body
 declared_by inside row (Some (Separated policy position initiated slots)) = flat_map inside (bodies_of slots)
 declared_by inside row None = []

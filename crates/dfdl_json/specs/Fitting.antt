@@ -4,6 +4,7 @@ use Rattle.dfdl_forms.specs.declared.simple.Simple.{Simple}
 use Rattle.dfdl_value.specs.declared.value.Value.{Value}
 use Rattle.dfdl_value.specs.Types.{IsOfType}
 use Rattle.dfdl_terms.specs.declared.representations.Representations.{Representations}
+use Rattle.dfdl_terms.specs.declared.statement.Statements.{Statements}
 use Rattle.dfdl_terms.specs.declared.event.Event.{Event}
 use Rattle.dfdl_terms.specs.declared.event.Event.TheVariants.{Start, Simple as SimpleElement, End}
 use Rattle.dfdl_terms.specs.declared.row.Row.TheVariants.{Elem}
@@ -14,11 +15,11 @@ mutual
   -- The events of one element: a simple one has a value of its type, and a complex one begins, has the events of what
   -- is inside, and ends.
   pub data IsElement (t : Table) : ℕ → List Event → Type 0 where
-    simple : (row : ℕ) (name : List ℕ) (kind : Simple) (tried : Representations) (body : ℕ) (value : Value)
-        → slice_get t.rows row ≡ Some (Elem name (Some kind) tried body) → IsOfType kind value
+    simple : (row : ℕ) (name : List ℕ) (kind : Simple) (tried : Representations) (behind : Statements) (body : ℕ) (value : Value)
+        → slice_get t.rows row ≡ Some (Elem name (Some kind) tried behind body) → IsOfType kind value
         → IsElement t row (SimpleElement row value ∷ [])
-    complex : (row : ℕ) (name : List ℕ) (tried : Representations) (body : ℕ) (inside : List Event)
-        → slice_get t.rows row ≡ Some (Elem name None tried body) → AreInside t (elements_in t body) inside
+    complex : (row : ℕ) (name : List ℕ) (tried : Representations) (behind : Statements) (body : ℕ) (inside : List Event)
+        → slice_get t.rows row ≡ Some (Elem name None tried behind body) → AreInside t (elements_in t body) inside
         → IsElement t row (Start row ∷ (inside ++ End ∷ []))
 
   -- The events of elements among these rows, in their order, each at most once.

@@ -13,7 +13,7 @@ use Rattle.dfdl_report.specs.declared.cause.InfosetCause.{InfosetCause}
 use Rattle.dfdl_report.specs.declared.cause.InfosetCause.TheVariants.{RootExpected, UnknownMember, ObjectExpected, StringExpected, NotAValue, NullNotAllowed}
 use Rattle.dfdl_terms.specs.Rows.{Table}
 use Rattle.dfdl_terms.specs.declared.row.Row.{Row}
-use Rattle.dfdl_terms.specs.declared.row.Row.TheVariants.{Leaf, Elem, Group, Skip, Align, Initiator, Terminator, Separator, Scope, Boxed, PrefixedLeaf, PrefixedBox, Repeat, Optional, Choice, Test, Hidden, Separated}
+use Rattle.dfdl_terms.specs.declared.row.Row.TheVariants.{Leaf, Elem, Group, Skip, Align, Initiator, Terminator, Separator, Scope, Boxed, PrefixedLeaf, PrefixedBox, Repeat, Optional, Choice, Statement, Concluded, Hidden, Separated}
 use Rattle.dfdl_terms.specs.declared.event.Event.{Event}
 use Rattle.dfdl_terms.specs.declared.event.Event.TheVariants.{Start, Simple as SimpleElement, End}
 use Rattle.dfdl_json.specs.ByRows.{by_rows}
@@ -104,9 +104,9 @@ complex_findings t inside row elements names (array items) = refused ObjectExpec
 -- what content says of a row's element, which stands in elements of these names, where `inside` has what it says of
 -- the rows below
 abbrev pub findings_by : Table → (ℕ → Data → Names → List Finding) → ℕ → Option Row → Data → Names → List Finding
-findings_by t inside row (Some (Elem name (Some kind) tried body)) content around =
+findings_by t inside row (Some (Elem name (Some kind) tried behind body)) content around =
     simple_findings row (name ∷ around) (value_in kind content)
-findings_by t inside row (Some (Elem name None tried body)) content around =
+findings_by t inside row (Some (Elem name None tried behind body)) content around =
     complex_findings t inside row (elements_in t body) (name ∷ around) content
 findings_by t inside row (Some (Leaf prim)) content around = []
 findings_by t inside row (Some (Group children)) content around = []
@@ -122,7 +122,8 @@ findings_by t inside row (Some (PrefixedBox prefix body)) content around = []
 findings_by t inside row (Some (Repeat count body)) content around = []
 findings_by t inside row (Some (Optional most item initiated body)) content around = []
 findings_by t inside row (Some (Choice branches initiated)) content around = []
-findings_by t inside row (Some (Test test)) content around = []
+findings_by t inside row (Some (Statement statement)) content around = []
+findings_by t inside row (Some (Concluded behind body)) content around = []
 findings_by t inside row (Some (Hidden body)) content around = []
 findings_by t inside row (Some (Separated policy position initiated slots)) content around = []
 findings_by t inside row None content around = []

@@ -1,7 +1,7 @@
 -- Mirror for the prover: how marks go from rows to those that stand in their place.
 use Rattle.std.specs.Prelude.{ℕ, Bool, true, false, if◌then◌else◌, List, [], ◌∷◌, set}
 use Rattle.dfdl_terms.specs.declared.row.Row.{Row}
-use Rattle.dfdl_terms.specs.declared.row.Row.TheVariants.{Elem, Group, Scope, Boxed, PrefixedBox, Repeat, Optional, Choice, Hidden, Separated}
+use Rattle.dfdl_terms.specs.declared.row.Row.TheVariants.{Elem, Group, Scope, Concluded, Boxed, PrefixedBox, Repeat, Optional, Choice, Hidden, Separated}
 use Rattle.dfdl_terms.specs.Arrays.{is_marked}
 use Rattle.dfdl_json.specs.Children.{bodies_of}
 
@@ -11,6 +11,7 @@ parts_in (Group children) = children
 parts_in (Choice branches initiated) = branches
 parts_in (Separated policy position initiated slots) = bodies_of slots
 parts_in (Scope list body) = body ∷ []
+parts_in (Concluded behind body) = body ∷ []
 parts_in (Boxed bits body) = body ∷ []
 parts_in (PrefixedBox prefix body) = body ∷ []
 parts_in (Repeat count body) = body ∷ []
@@ -25,7 +26,7 @@ all_marked marks (row ∷ rows) = set (all_marked marks rows) row true
 
 -- the row's mark goes to those in its place: an element keeps its own, and a hidden row needs none
 abbrev pub goes_on : Row → Bool → Bool
-goes_on (Elem name simple tried body) marked = false
+goes_on (Elem name simple tried behind body) marked = false
 goes_on (Hidden body) marked = true
 goes_on _ marked = marked
 

@@ -2,7 +2,7 @@
 use Rattle.std.specs.Prelude.{ℕ, ◌+◌, List, [], ◌∷◌, map, Option, None, Some}
 use Rattle.dfdl_terms.specs.Rows.{Table}
 use Rattle.dfdl_terms.specs.declared.row.Row.{Row}
-use Rattle.dfdl_terms.specs.declared.row.Row.TheVariants.{Leaf, Elem, Group, Skip, Align, Initiator, Terminator, Separator, Scope, Boxed, PrefixedLeaf, PrefixedBox, Repeat, Optional, Choice, Test, Hidden, Separated}
+use Rattle.dfdl_terms.specs.declared.row.Row.TheVariants.{Leaf, Elem, Group, Skip, Align, Initiator, Terminator, Separator, Scope, Boxed, PrefixedLeaf, PrefixedBox, Repeat, Optional, Choice, Statement, Concluded, Hidden, Separated}
 use Rattle.dfdl_json.specs.ByRows.{by_rows}
 use Rattle.dfdl_json.specs.Children.{bodies_of}
 
@@ -21,14 +21,15 @@ steps_by inside row (Some (Initiator delimiter)) = 1
 steps_by inside row (Some (Terminator delimiter separators)) = 1
 steps_by inside row (Some Separator) = 1
 steps_by inside row (Some (PrefixedLeaf prefix prim)) = 1
-steps_by inside row (Some (Elem name simple tried body)) = 2 + inside body
+steps_by inside row (Some (Elem name simple tried behind body)) = 2 + inside body
 steps_by inside row (Some (Scope list body)) = 1 + inside body
 steps_by inside row (Some (Boxed bits body)) = 1 + inside body
 steps_by inside row (Some (PrefixedBox prefix body)) = 1 + inside body
 steps_by inside row (Some (Repeat count body)) = 1 + inside body
 steps_by inside row (Some (Optional most item initiated body)) = 1 + inside body
 steps_by inside row (Some (Choice branches initiated)) = 1 + total (map inside branches)
-steps_by inside row (Some (Test test)) = 1
+steps_by inside row (Some (Statement statement)) = 1
+steps_by inside row (Some (Concluded behind body)) = 1 + inside body
 steps_by inside row (Some (Hidden body)) = 1 + inside body
 steps_by inside row (Some (Separated policy position initiated slots)) = 1 + total (map inside (bodies_of slots))
 steps_by inside row (Some (Group children)) = 1 + total (map inside children)

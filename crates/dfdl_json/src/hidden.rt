@@ -83,6 +83,7 @@ fn mark_parts(id: RowId, row: &Row, marks: &mut Vec<bool>)
         Row::Choice { branches, .. } => mark(marks, branches.as_slice()),
         Row::Separated { slots, .. } => mark_slots(marks, slots.as_slice()),
         Row::Scope { body, .. } => mark(marks, &[*body]),
+        Row::Concluded { body, .. } => mark(marks, &[*body]),
         Row::Boxed { body, .. } => mark(marks, &[*body]),
         Row::PrefixedBox { body, .. } => mark(marks, &[*body]),
         Row::Repeat { body, .. } => mark(marks, &[*body]),

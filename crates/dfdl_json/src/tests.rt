@@ -11,7 +11,8 @@ use dfdl_decimal::Fixed;
 use dfdl_forms::{BitOrder, ByteOrder, IntForm};
 use dfdl_region::{Content, Node};
 use dfdl_terms::{
-    Event, LengthUnit, Prefix, Primitive, Representations, Row, RowId, RowList, Tables, Terms,
+    Event, LengthUnit, NameNumbers, Prefix, Primitive, Representations, Row, RowId, RowList,
+    Statements, Tables, Terms,
 };
 use dfdl_value::{Simple, TextValue, Value};
 use std::alloc::{AllocError, Global};
@@ -34,7 +35,8 @@ fn form(bits: u32, kind: Simple) -> Primitive
 
 fn element(alloc: Global, name: &str, simple: Option<Simple>, body: u32) -> Result<Row, AllocError>
     ensures { IfOk result (λ row. row
-        ≡ Elem name.now simple (record { nil = None; empty = None; refuses_empty = false; are_several = false }) body) }
+        ≡ Elem name.now simple (record { nil = None; empty = None; refuses_empty = false; are_several = false })
+        (record { first = 0; count = 0 }) body) }
 {
     Ok(Row::Elem {
         name: TextValue::from_str(alloc, name)?,
@@ -45,6 +47,7 @@ fn element(alloc: Global, name: &str, simple: Option<Simple>, body: u32) -> Resu
             refuses_empty: false,
             are_several: false,
         },
+        behind: Statements { first: 0, count: 0 },
         body: RowId::new(body),
     })
 }
@@ -94,7 +97,13 @@ fn nested(alloc: Global) -> Result<Terms, Fail>
         element(alloc, "r", None, 11)?,
     ]?;
     let forms = vec![in alloc; form(8, Simple::UnsignedByte)]?;
-    let tables = Tables::new(forms, Vec::new(alloc), Vec::new(alloc));
+    let tables = Tables::new(
+        forms,
+        Vec::new(alloc),
+        Vec::new(alloc),
+        NameNumbers::from_vec(Vec::new(alloc)),
+        Vec::new(alloc),
+    );
     Ok(Terms::build(alloc, rows, tables)?)
 }
 
@@ -289,7 +298,13 @@ fn repeated(alloc: Global) -> Result<Terms, Fail> {
         element(alloc, "r", None, 4)?,
     ]?;
     let forms = vec![in alloc; form(8, Simple::UnsignedByte)]?;
-    let tables = Tables::new(forms, Vec::new(alloc), Vec::new(alloc));
+    let tables = Tables::new(
+        forms,
+        Vec::new(alloc),
+        Vec::new(alloc),
+        NameNumbers::from_vec(Vec::new(alloc)),
+        Vec::new(alloc),
+    );
     Ok(Terms::build(alloc, rows, tables)?)
 }
 
@@ -325,7 +340,13 @@ fn hiding(alloc: Global) -> Result<Terms, Fail> {
         element(alloc, "r", None, 4)?,
     ]?;
     let forms = vec![in alloc; form(8, Simple::UnsignedByte)]?;
-    let tables = Tables::new(forms, Vec::new(alloc), Vec::new(alloc));
+    let tables = Tables::new(
+        forms,
+        Vec::new(alloc),
+        Vec::new(alloc),
+        NameNumbers::from_vec(Vec::new(alloc)),
+        Vec::new(alloc),
+    );
     Ok(Terms::build(alloc, rows, tables)?)
 }
 

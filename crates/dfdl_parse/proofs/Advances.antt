@@ -11,7 +11,7 @@ use Rattle.dfdl_terms.specs.declared.row.Primitive.{Primitive}
 use Rattle.dfdl_delims.specs.Lists.{Opened}
 use Rattle.dfdl_terms.specs.declared.delimiters.Delimiters.{Delimiters}
 use Rattle.dfdl_terms.specs.declared.row.Row.{Row}
-use Rattle.dfdl_terms.specs.declared.row.Row.TheVariants.{Leaf, Elem, Group, Skip, Align, Initiator, Terminator, Separator, Scope, Boxed, PrefixedLeaf, PrefixedBox, Repeat, Optional, Choice, Test, Hidden, Separated}
+use Rattle.dfdl_terms.specs.declared.row.Row.TheVariants.{Leaf, Elem, Group, Skip, Align, Initiator, Terminator, Separator, Scope, Boxed, PrefixedLeaf, PrefixedBox, Repeat, Optional, Choice, Statement, Concluded, Hidden, Separated}
 use Rattle.dfdl_terms.specs.Rows.{Table}
 use Rattle.dfdl_looks.specs.Looks.{Agrees}
 use Rattle.dfdl_looks.specs.Asks.{Ask, AsksFrom, Reached, Told, TooFar, Missing, ask}
@@ -19,6 +19,7 @@ use Rattle.dfdl_looks.specs.Tallies.{Tally, first_of, needs_from, nothing, one_r
 use Rattle.dfdl_looks.proofs.Waiting.{kept}
 use Rattle.dfdl_grammar.specs.declared.end.End.{End}
 use Rattle.dfdl_grammar.specs.declared.end.End.TheVariants.{Done, Failed, Stopped}
+use Rattle.dfdl_grammar.specs.declared.end.Halt.TheVariants.{Limit}
 use Rattle.dfdl_grammar.specs.declared.limits.Limits.{Limits}
 use Rattle.dfdl_grammar.specs.States.{State, anchor, anchor_at}
 use Rattle.dfdl_grammar.specs.Marks.{back, closed, is_settled, marked, pointed, stays_at}
@@ -33,7 +34,7 @@ use Rattle.dfdl_grammar.specs.Framing.{aligned}
 use Rattle.dfdl_grammar.specs.Delimiters.{lists_of, markup, sought_among, stands_in}
 use Rattle.dfdl_grammar.specs.Elements.{begun, has_elements}
 use Rattle.dfdl_parse.specs.declared.frame.Frame.{Frame}
-use Rattle.dfdl_parse.specs.declared.frame.Frame.TheVariants.{Rest, Element, Box, Scope as ScopeFrame, Trial, Branch, Occurrence, Before, Content, Closing}
+use Rattle.dfdl_parse.specs.declared.frame.Frame.TheVariants.{Rest, Element, Box, Scope as ScopeFrame, Trial, Branch, Occurrence, Before, Content, Closing, Concluding}
 use Rattle.dfdl_parse.specs.declared.frame.Outside.{Outside}
 use Rattle.dfdl_parse.specs.declared.frame.Next.{Next}
 use Rattle.dfdl_parse.specs.declared.frame.Next.TheVariants as next
@@ -51,7 +52,11 @@ use Rattle.dfdl_parse.specs.Machines.{children_of, enter, enter_group, fill, fil
 use Rattle.dfdl_parse.specs.Trials.{attempt, parts_of, refused, retry, trial_done, try_empty, try_nil, try_normal, two_rows}
 use Rattle.dfdl_parse.specs.Points.{try_branch, try_occurrence}
 use Rattle.dfdl_parse.specs.Testing.{read_test}
-use Rattle.dfdl_terms.specs.declared.asserting.PatternTest.{PatternTest}
+use Rattle.dfdl_parse.specs.Stating.{make_statement, with_behind}
+use Rattle.dfdl_terms.specs.declared.statement.Statement.{Statement as AnyStatement}
+use Rattle.dfdl_terms.specs.declared.statement.Statement.TheVariants.{Pattern, Expression, Setting, Calculation}
+use Rattle.dfdl_paths.specs.declared.place.Start.TheVariants.{At}
+use Rattle.dfdl_terms.specs.declared.statement.PatternTest.{PatternTest}
 use Rattle.dfdl_parse.proofs.TestSteps.{test-from}
 use Rattle.dfdl_parse.specs.Running.{Slid}
 use Rattle.dfdl_parse.proofs.Windows.{agrees_from, end_from}
@@ -257,7 +262,7 @@ module _ (held : Held) (s : State) where
   attempt-keeps : (cost : Tally) → cost.tail ≡ 0 → cost.far ≡ 0 → (most id : ℕ) (parts : Parts) (instead : Instead) (k : List Frame) (t : State) (room : Bool)
       → Keeps held (cond room
       (pass cost held (Enter parts.body) (Element t.inside parts.complex ∷ k) (begun id instead t))
-      (pass cost held (Leave (Stopped Nodes most)) k t))
+      (pass cost held (Leave (Stopped (Limit Nodes) most)) k t))
   attempt-keeps cost no_tail no_far most id parts instead k t true = pass-keeps cost held _ _ _ no_tail no_far
   attempt-keeps cost no_tail no_far most id parts instead k t false = pass-keeps cost held _ _ _ no_tail no_far
 
@@ -315,11 +320,19 @@ module _ (held : Held) (s : State) where
   failed-keeps end_told k other keeps false = keeps
 
   -- a test
-  test-keeps : Anchored held s → (limits : Limits) (id number : ℕ) (test : Option PatternTest) (k : List Frame)
+  test-keeps : Anchored held s → (limits : Limits) (id number : ℕ) (test : PatternTest) (k : List Frame)
       → Keeps held (read_test one_row limits (Enter id) held number test k s)
-  test-keeps stands limits id number None k = pass-keeps one_row held _ _ _ refl refl
-  test-keeps stands limits id number (Some test) k =
+  test-keeps stands limits id number test k =
       asked-keeps stands one_row refl refl (text_sought test.form (aligned 8 s.at) s.stop) (test-from (anchor s) test.form s.at s.stop stands.low) _ _
+
+  -- a statement
+  statement-keeps : Anchored held s → (limits : Limits) (table : Table) (id number : ℕ) (found : Option AnyStatement) (k : List Frame)
+      → Keeps held (make_statement one_row limits table (Enter id) held number found k s)
+  statement-keeps stands limits table id number None k = pass-keeps one_row held _ _ _ refl refl
+  statement-keeps stands limits table id number (Some (Pattern test)) k = test-keeps stands limits id number test k
+  statement-keeps stands limits table id number (Some (Expression test)) k = pass-keeps one_row held _ _ _ refl refl
+  statement-keeps stands limits table id number (Some (Setting setting)) k = pass-keeps one_row held _ _ _ refl refl
+  statement-keeps stands limits table id number (Some (Calculation calculation)) k = pass-keeps one_row held _ _ _ refl refl
 
   passed-keeps : (body : ℕ) (initiated : Bool) (left : ℕ) (k : List Frame) (stays : Bool)
       → Keeps held (cond stays (pass nothing held (Leave Done) k (dropped s)) (try_occurrence nothing held body initiated left k (closed s)))
@@ -355,8 +368,9 @@ module _ (held : Held) (s : State) where
   enter-keeps stands limits table id (Some (Leaf prim)) k =
       leaf-keeps stands one_row refl refl limits (Enter id) table.delimiters (nil_values table.primitives s.instead)
       (slice_get table.primitives (read_by table.primitives s.instead prim)) k
-  enter-keeps stands limits table id (Some (Elem name simple tried body)) k =
-      element-keeps limits.nodes id (record { complex = has_elements simple; tried = tried; body = body }) k tried.are_several
+  enter-keeps stands limits table id (Some (Elem name simple tried statements body)) k =
+      element-keeps limits.nodes id (record { complex = has_elements simple; tried = tried; body = body }) (with_behind statements (At (length s.nodes)) k)
+      tried.are_several
   enter-keeps stands limits table id (Some (Group children)) k = group-keeps id children k
   enter-keeps stands limits table id (Some (Skip bits)) k = begin-keeps (s.at + bits) k (nat_le (s.at + bits) s.at) (nat_le (s.at + bits) s.stop)
   enter-keeps stands limits table id (Some (Align bits)) k =
@@ -378,7 +392,8 @@ module _ (held : Held) (s : State) where
   enter-keeps stands limits table id (Some (Choice rows initiated)) k = branch-keeps one_row refl refl id 0 (slice_get rows 0) k (pointed initiated s)
   enter-keeps stands limits table id (Some (PrefixedBox prefix body)) k =
       prefix-keeps stands limits table.delimiters id prefix.own (behind_units table.primitives prefix.unit (behind.Box body)) (slice_get table.primitives prefix.prim) k
-  enter-keeps stands limits table id (Some (Test test)) k = test-keeps stands limits id test (slice_get table.tests test) k
+  enter-keeps stands limits table id (Some (Statement number)) k = statement-keeps stands limits table id number (slice_get table.statements number) k
+  enter-keeps stands limits table id (Some (Concluded statements body)) k = pass-keeps one_row held _ _ _ refl refl
   enter-keeps stands limits table id (Some (Hidden body)) k = pass-keeps one_row held _ _ _ refl refl
   enter-keeps stands limits table id (Some (Separated policy position initiated slots)) k =
       passing-keeps one_row refl refl _ (separated-passes held initiated k id policy position slots s)
@@ -419,6 +434,8 @@ module _ (held : Held) (s : State) where
       passing-keeps nothing refl refl _ (closing-passes held (separation_at table slot).initiated k slot bit (slots_from table slot) true Done s)
   leave-keeps limits table (Closing slot bit) (Failed cause at) k =
       passing-keeps nothing refl refl _ (closing-passes held (separation_at table slot).initiated k slot bit (slots_from table slot) false (Failed cause at) s)
+  leave-keeps limits table (Concluding statements start) Done k = pass-keeps nothing held _ _ _ refl refl
+  leave-keeps limits table (Concluding statements start) (Failed cause bit) k = pass-keeps nothing held _ _ _ refl refl
   leave-keeps limits table frame (Stopped cause quantity) k = pass-keeps nothing held _ _ _ refl refl
 
   -- a question of a slot
@@ -441,7 +458,7 @@ module _ (held : Held) (s : State) where
       → P (told_move limits focus sight cost moves reached k s)
   waiting-passes limits focus sight cost moves k each (Told answer) P keeps waits = keeps (moves answer) (each answer)
   waiting-passes limits focus sight cost moves k each TooFar P keeps waits =
-      keeps (pass cost sight (Leave (Stopped Window limits.window)) k s) (record { looks = refl; far = refl; tail = refl; held_are = refl; waits = refl })
+      keeps (pass cost sight (Leave (Stopped (Limit Window) limits.window)) k s) (record { looks = refl; far = refl; tail = refl; held_are = refl; waits = refl })
   waiting-passes limits focus sight cost moves k each Missing P keeps waits = waits
 
   question-keeps : (stands : Anchored held s) (question : Ask Bool) (from : AsksFrom (anchor s) question) (limits : Limits) (focus : Focus) (moves : Bool → Move) (k : List Frame)

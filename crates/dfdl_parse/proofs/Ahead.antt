@@ -1,5 +1,5 @@
 -- A step does a part of what is ahead.
-use Rattle.std.proofs.Common.{◌≡◌, ℕ, suc, ◌+◌, ◌-◌, ◌*◌, ◌/◌, ◌<◌, min, nat_le, refl, List, [], ◌∷◌, length, drop, Bool, true, false, cond, nat_lt, Option, Some, None, All, ap, sym, subst, ◌∙◌, arith, replicate}
+use Rattle.std.proofs.Common.{◌≡◌, ℕ, suc, ◌+◌, ◌-◌, ◌*◌, ◌/◌, ◌<◌, min, nat_eq, nat_le, refl, List, [], ◌∷◌, length, drop, Bool, true, false, cond, nat_lt, Option, Some, None, All, ap, sym, subst, ◌∙◌, arith, replicate}
 use Rattle.std.specs.Prelude.{IfSome, is_some, slice_get}
 use Rattle.std.proofs.lemmas.Bool.Decides.{nat_tests}
 use Rattle.std.proofs.lemmas.Option.{slice_get_within}
@@ -7,14 +7,13 @@ use Rattle.std.proofs.lemmas.List.Elements.{All-replicate}
 use Rattle.dfdl_bits.specs.Window.{Held, end_of, from_byte}
 use Rattle.dfdl_bits.specs.declared.window.Seen.{Seen}
 use Rattle.dfdl_bits.specs.declared.window.Seen.TheVariants.{Byte, End as DataEnded, NotYet, Over}
-use Rattle.dfdl_report.specs.declared.cause.LimitCause.{LimitCause}
 use Rattle.dfdl_report.specs.declared.cause.LimitCause.TheVariants.{Nodes, Window}
 use Rattle.dfdl_report.specs.declared.cause.ParseCause.{ParseCause}
 use Rattle.dfdl_value.specs.declared.value.Value.{Value}
 use Rattle.dfdl_terms.specs.declared.row.Primitive.{Primitive}
 use Rattle.dfdl_grammar.specs.Leaves.{nil_values, read_by}
 use Rattle.dfdl_terms.specs.declared.row.Row.{Row}
-use Rattle.dfdl_terms.specs.declared.row.Row.TheVariants.{Leaf, Elem, Group, Skip, Align, Initiator, Terminator, Separator, Scope, Boxed, PrefixedLeaf, PrefixedBox, Repeat, Optional, Choice, Test, Hidden, Separated}
+use Rattle.dfdl_terms.specs.declared.row.Row.TheVariants.{Leaf, Elem, Group, Skip, Align, Initiator, Terminator, Separator, Scope, Boxed, PrefixedLeaf, PrefixedBox, Repeat, Optional, Choice, Statement, Concluded, Hidden, Separated}
 use Rattle.dfdl_terms.specs.Rows.{Table, Nests}
 use Rattle.dfdl_looks.specs.Looks.{seen_in}
 use Rattle.dfdl_looks.specs.Asks.{Answer, Reading}
@@ -22,6 +21,8 @@ use Rattle.dfdl_looks.specs.Tallies.{Tally, needs_from, nothing, one_row, plus, 
 use Rattle.dfdl_looks.proofs.Resumed.{on_seen}
 use Rattle.dfdl_grammar.specs.declared.end.End.{End}
 use Rattle.dfdl_grammar.specs.declared.end.End.TheVariants.{Done, Failed, Stopped}
+use Rattle.dfdl_grammar.specs.declared.end.Halt.{Halt}
+use Rattle.dfdl_grammar.specs.declared.end.Halt.TheVariants.{Limit}
 use Rattle.dfdl_grammar.specs.States.{Input, State, anchor_at}
 use Rattle.dfdl_grammar.specs.Marks.{back, closed, is_settled, marked, pointed, stays_at}
 use Rattle.dfdl_grammar.specs.declared.mark.Mark.{Mark}
@@ -34,12 +35,12 @@ use Rattle.dfdl_report.specs.declared.cause.ParseCause.TheVariants.{DataEnds, Le
 use Rattle.dfdl_grammar.specs.Prefixes.{bits_of_units, size_of, sized_leaf}
 use Rattle.dfdl_grammar.specs.Framing.{aligned, fill_to, passed}
 use Rattle.dfdl_grammar.specs.Boxes.{boxed, bytes_up_to, pass_bytes, past_byte, rest, unboxed}
-use Rattle.dfdl_grammar.specs.Elements.{begun, close, has_elements, left}
+use Rattle.dfdl_grammar.specs.Elements.{begun, close, element, has_elements, left}
 use Rattle.dfdl_grammar.specs.Rows.{below, group, meaning, row}
 use Rattle.dfdl_grammar.proofs.Spending.{spend-nothing, spend-spend}
 use Rattle.dfdl_grammar.proofs.Towers.{below-meaning}
 use Rattle.dfdl_parse.specs.declared.frame.Frame.{Frame}
-use Rattle.dfdl_parse.specs.declared.frame.Frame.TheVariants.{Rest, Element, Box, Scope as ScopeFrame, Trial, Branch, Occurrence, Before, Content, Closing}
+use Rattle.dfdl_parse.specs.declared.frame.Frame.TheVariants.{Rest, Element, Box, Scope as ScopeFrame, Trial, Branch, Occurrence, Before, Content, Closing, Concluding}
 use Rattle.dfdl_parse.specs.declared.frame.Outside.{Outside}
 use Rattle.dfdl_parse.specs.declared.frame.Next.{Next}
 use Rattle.dfdl_parse.specs.declared.frame.Next.TheVariants as next
@@ -56,7 +57,7 @@ use Rattle.dfdl_parse.specs.Trials.{attempt, parts_of, refused, retry, trial_don
 use Rattle.dfdl_parse.specs.Ahead.{finish, focused, retried, trial_of}
 use Rattle.dfdl_parse.proofs.Lists.{drop_some, drop_none, all_at}
 use Rattle.dfdl_parse.proofs.Beyond.{beyond-same}
-use Rattle.dfdl_parse.proofs.Finishes.{Anchored, Does, Fits, after_nothing, finish-spend, from_here, retried-spend, unboxed-spend}
+use Rattle.dfdl_parse.proofs.Finishes.{Anchored, Does, Fits, after_nothing, concluded-spend, finish-spend, from_here, retried-spend, unboxed-spend}
 use Rattle.dfdl_parse.specs.Slots.{slots_from}
 use Rattle.dfdl_parse.proofs.SlotRows.{all-below, slots-below}
 use Rattle.dfdl_parse.proofs.SlotSteps.{before_done-ahead, before_failed-ahead, before_stopped-ahead, closing_done-ahead, closing_failed-ahead, closing_stopped-ahead, content_done-ahead, content_failed-ahead, content_stopped-ahead, look_behind-ahead, look_in-ahead, separated-ahead}
@@ -64,6 +65,14 @@ use Rattle.dfdl_parse.proofs.PointSteps.{branch-ahead, failed-branch-ahead, fail
 use Rattle.dfdl_parse.proofs.SeekSteps.{delimiter-ahead, scope-ahead, seek-ahead, separator-ahead}
 use Rattle.dfdl_parse.proofs.LeafSteps.{Sees, box-ahead, leaf-of, prefix-of, sized-begin, sized-of}
 use Rattle.dfdl_parse.proofs.TestSteps.{test-ahead}
+use Rattle.dfdl_parse.specs.Stating.{behind_done, comes_to, make_statement, with_behind}
+use Rattle.dfdl_terms.specs.declared.statement.Statement.{Statement as AnyStatement}
+use Rattle.dfdl_terms.specs.declared.statement.Statement.TheVariants.{Pattern, Expression, Setting, Calculation}
+use Rattle.dfdl_terms.specs.declared.statement.Statements.{Statements}
+use Rattle.dfdl_paths.specs.declared.place.Start.{Start}
+use Rattle.dfdl_paths.specs.declared.place.Start.TheVariants.{At, Inside}
+use Rattle.dfdl_grammar.specs.Statements.{concluded, concluded_at, reconsidered_from, stated, statement_of}
+use Rattle.dfdl_parse.proofs.Stated.{stated-nothing}
 
 module _ (input : Input) (table : Table) where
   -- one representation of an element, where the costs before it are given
@@ -71,10 +80,10 @@ module _ (input : Input) (table : Table) where
       → Does input table
       (finish input table k (spend cost (spend one_row (cond room
       (let o : Outcome = below input table id parts.body (begun id instead s) in close o.end s.inside parts.complex o)
-      (ended (Stopped Nodes input.limits.nodes) s)))))
+      (ended (Stopped (Limit Nodes) input.limits.nodes) s)))))
       (cond room
       (pass (plus cost one_row) held (Enter parts.body) (Element s.inside parts.complex ∷ k) (begun id instead s))
-      (pass (plus cost one_row) held (Leave (Stopped Nodes input.limits.nodes)) k s))
+      (pass (plus cost one_row) held (Leave (Stopped (Limit Nodes) input.limits.nodes)) k s))
   unfolding finish
   attempt-ahead cost held id parts instead k s less true =
       let o : Outcome = below input table id parts.body (begun id instead s) in
@@ -83,8 +92,8 @@ module _ (input : Input) (table : Table) where
       ∙ ap (λ (o : Outcome). spend (plus cost one_row) (finish input table k (close o.end s.inside parts.complex o)))
       (below-meaning input table id parts.body (begun id instead s) less)
   attempt-ahead cost held id parts instead k s less false =
-      ap (finish input table k) (spend-spend cost one_row (ended (Stopped Nodes input.limits.nodes) s))
-      ∙ finish-spend input table k (plus cost one_row) (ended (Stopped Nodes input.limits.nodes) s)
+      ap (finish input table k) (spend-spend cost one_row (ended (Stopped (Limit Nodes) input.limits.nodes) s))
+      ∙ finish-spend input table k (plus cost one_row) (ended (Stopped (Limit Nodes) input.limits.nodes) s)
 
   -- one of several representations, by what follows it
   tried-ahead : (cost : Tally) (id : ℕ) (parts : Parts) (follows : Next) (o : Outcome) (k : List Frame) → parts_of (slice_get table.rows id) ≡ Some parts
@@ -131,8 +140,8 @@ module _ (input : Input) (table : Table) where
   body-below : Nests table.rows → (id : ℕ) (parts : Parts) (r : Option Row) → slice_get table.rows id ≡ r → parts_of r ≡ Some parts → parts.body < id
   body-below nests id parts None is told = absurd (cc)
   body-below nests id parts (Some (Leaf prim)) is told = absurd (cc)
-  body-below nests id parts (Some (Elem name simple tried body)) is told =
-      let less : body < id = nests id (Elem name simple tried body) (slice_get_within table.rows id (Elem name simple tried body) is) is in
+  body-below nests id parts (Some (Elem name simple tried statements body)) is told =
+      let less : body < id = nests id (Elem name simple tried statements body) (slice_get_within table.rows id (Elem name simple tried statements body) is) is in
       subst (λ (p : Option Parts). IfSome p (λ q. q.body < id)) told less
   body-below nests id parts (Some (Group children)) is told = absurd (cc)
   body-below nests id parts (Some (Skip bits)) is told = absurd (cc)
@@ -147,7 +156,8 @@ module _ (input : Input) (table : Table) where
   body-below nests id parts (Some (Repeat count body)) is told = absurd (cc)
   body-below nests id parts (Some (Optional most item initiated body)) is told = absurd (cc)
   body-below nests id parts (Some (Choice rows initiated)) is told = absurd (cc)
-  body-below nests id parts (Some (Test test)) is told = absurd (cc)
+  body-below nests id parts (Some (Statement number)) is told = absurd (cc)
+  body-below nests id parts (Some (Concluded statements body)) is told = absurd (cc)
   body-below nests id parts (Some (Hidden body)) is told = absurd (cc)
   body-below nests id parts (Some (Separated policy position initiated slots)) is told = absurd (cc)
 
@@ -173,12 +183,12 @@ module _ (input : Input) (table : Table) where
   done-trial held id (Some parts) next.Nothing k s = after_nothing input table k (ended Done (closed s))
 
   -- and one that has come to a limit
-  stopped-empty : (next : State → Outcome) (refuses : Bool) (cause : LimitCause) (quantity : ℕ) (s : State)
+  stopped-empty : (next : State → Outcome) (refuses : Bool) (cause : Halt) (quantity : ℕ) (s : State)
       → after_empty refuses (ended (Stopped cause quantity) s) next ≡ ended (Stopped cause quantity) s
   stopped-empty next true cause quantity s = refl
   stopped-empty next false cause quantity s = refl
 
-  stopped-trial : (id : ℕ) (parts : Option Parts) (follows : Next) (cause : LimitCause) (quantity : ℕ) (s : State)
+  stopped-trial : (id : ℕ) (parts : Option Parts) (follows : Next) (cause : Halt) (quantity : ℕ) (s : State)
       → retried input table id parts follows (ended (Stopped cause quantity) s) ≡ ended (Stopped cause quantity) s
   stopped-trial id None follows cause quantity s = refl
   stopped-trial id (Some parts) next.Empty cause quantity s = refl
@@ -224,7 +234,7 @@ module _ (input : Input) (table : Table) where
   filled-ahead sight low to (Byte b) k s going = finish-spend input table k (needs_from low (saw_byte ((to - 1) / 8) nothing)) (ended Done (record s { at = to }))
   filled-ahead sight low to DataEnded k s going = finish-spend input table k (needs_from low (saw_end ((to - 1) / 8) nothing)) (ended (Failed DataEnds s.at) s)
   filled-ahead sight low to NotYet k s going = absurd (cc)
-  filled-ahead sight low to Over k s going = finish-spend input table k (needs_from low (saw_none nothing)) (ended (Stopped Window input.limits.window) s)
+  filled-ahead sight low to Over k s going = finish-spend input table k (needs_from low (saw_none nothing)) (ended (Stopped (Limit Window) input.limits.window) s)
 
   -- a look that isn't in vain
   came : (window : ℕ) (sight : Held) (low to : ℕ) (v : Seen) (k : List Frame) (s : State) → (fill_move window sight low to v k s).waits ≡ false → v ≡ NotYet → ⊥
@@ -282,7 +292,7 @@ module _ (input : Input) (table : Table) where
       ∙ past-ahead sight low byte outer k s (nat_le ((s.stop - 1) / 8) byte) refl
   rested-ahead sight low bit outer DataEnded k s going = finish-spend input table k (needs_from low (saw_end (bit / 8) nothing)) (ended (Failed DataEnds s.at) (hides outer.hidden s))
   rested-ahead sight low bit outer NotYet k s going = absurd (cc)
-  rested-ahead sight low bit outer Over k s going = finish-spend input table k (needs_from low (saw_none nothing)) (ended (Stopped Window input.limits.window) s)
+  rested-ahead sight low bit outer Over k s going = finish-spend input table k (needs_from low (saw_none nothing)) (ended (Stopped (Limit Window) input.limits.window) s)
 
   -- a look at the rest that isn't in vain
   rest-came : (window : ℕ) (sight : Held) (low bit : ℕ) (outer : Outside) (v : Seen) (k : List Frame) (s : State)
@@ -336,6 +346,52 @@ module _ (input : Input) (table : Table) where
       ∙ ap (λ (rows : List ℕ). spend one_row (finish input table k (then_do (meaning input table child s) (group (below input table id) rows))))
       (sym (ap (drop 1) is))
 
+  -- what stands before a component with statements behind it
+  behind-finish : (statements : Statements) (start : Start) (k : List Frame) (o : Outcome)
+      → finish input table (with_behind statements start k) o ≡ finish input table k (concluded input.limits table start statements o)
+  unfolding finish
+  behind-finish statements start k o = by (nat_eq statements.count 0)
+    where
+      by : (none : Bool) → finish input table (cond none k (Concluding statements start ∷ k)) o
+          ≡ finish input table k (cond none o (concluded_at o.end input.limits table start statements o))
+      by true = refl
+      by false = refl
+
+  behind-spend : (statements : Statements) (start : Start) (t : Tally) (o : Outcome)
+      → concluded input.limits table start statements (spend t o) ≡ spend t (concluded input.limits table start statements o)
+  behind-spend statements start t o = by (nat_eq statements.count 0)
+    where
+      by : (none : Bool) → cond none (spend t o) (concluded_at o.end input.limits table start statements (spend t o))
+          ≡ spend t (cond none o (concluded_at o.end input.limits table start statements o))
+      by true = refl
+      by false = concluded-spend o.end input.limits table start statements t o
+
+  behind-ahead : (statements : Statements) (start : Start) (k : List Frame) (t : Tally) (o : Outcome)
+      → finish input table k (spend t (concluded input.limits table start statements o)) ≡ finish input table (with_behind statements start k) (spend t o)
+  behind-ahead statements start k t o =
+      ap (finish input table k) (sym (behind-spend statements start t o)) ∙ sym (behind-finish statements start k (spend t o))
+
+  -- a statement that doesn't look at the data
+  stated-ahead : (held : Held) (start : Start) (number : ℕ) (found : Option AnyStatement) (k : List Frame) (s : State)
+      → Does input table (finish input table k (spend one_row (stated input.limits table start number found s)))
+      (comes_to one_row held (stated input.limits table start number found s) k)
+  stated-ahead held start number found k s =
+      let o : Outcome = stated input.limits table start number found s in
+      finish-spend input table k one_row o
+      ∙ ap (λ (t : Tally). spend one_row (finish input table k (record { end = o.end; state = o.state; tally = t })))
+      (stated-nothing input.limits table start number found s)
+
+  statement-ahead : (held : Held) (id number : ℕ) (found : Option AnyStatement) (k : List Frame) (s : State) → Sees held input s
+      → (make_statement one_row input.limits table (Enter id) held number found k s).waits ≡ false
+      → Does input table (finish input table k (spend one_row (statement_of input table number found s)))
+      (make_statement one_row input.limits table (Enter id) held number found k s)
+  statement-ahead held id number None k s sees going = stated-ahead held (Inside s.inside) number None k s
+  statement-ahead held id number (Some (Pattern test)) k s sees going = test-ahead input table (Enter id) held number test k s sees going
+  statement-ahead held id number (Some (Expression test)) k s sees going = stated-ahead held (Inside s.inside) number (Some (Expression test)) k s
+  statement-ahead held id number (Some (Setting setting)) k s sees going = stated-ahead held (Inside s.inside) number (Some (Setting setting)) k s
+  statement-ahead held id number (Some (Calculation calculation)) k s sees going =
+      stated-ahead held (At s.inside) number (Some (Calculation calculation)) k s
+
   -- the window shows the data at a leaf
   sees : {focus : Focus} (held : Held) (s : State) → Anchored held s → Fits held input focus s → Sees held input s
   sees held s stands fits = record { agrees = fits.agrees; size = fits.size; stands = stands }
@@ -344,7 +400,7 @@ module _ (input : Input) (table : Table) where
   children-below : Nests table.rows → (id : ℕ) (r : Option Row) → slice_get table.rows id ≡ r → All (λ c. c < id) (children_of r)
   children-below nests id None is = λ i row less. absurd (omega arith)
   children-below nests id (Some (Leaf prim)) is = λ i row less. absurd (omega arith)
-  children-below nests id (Some (Elem name simple tried body)) is = λ i row less. absurd (omega arith)
+  children-below nests id (Some (Elem name simple tried statements body)) is = λ i row less. absurd (omega arith)
   children-below nests id (Some (Group children)) is = nests id (Group children) (slice_get_within table.rows id (Group children) is) is
   children-below nests id (Some (Skip bits)) is = λ i row less. absurd (omega arith)
   children-below nests id (Some (Align bits)) is = λ i row less. absurd (omega arith)
@@ -359,7 +415,8 @@ module _ (input : Input) (table : Table) where
       All-replicate (λ c. c < id) count body (nests id (Repeat count body) (slice_get_within table.rows id (Repeat count body) is) is)
   children-below nests id (Some (Optional most item initiated body)) is = λ i row less. absurd (omega arith)
   children-below nests id (Some (Choice rows initiated)) is = nests id (Choice rows initiated) (slice_get_within table.rows id (Choice rows initiated) is) is
-  children-below nests id (Some (Test test)) is = λ i row less. absurd (omega arith)
+  children-below nests id (Some (Statement number)) is = λ i row less. absurd (omega arith)
+  children-below nests id (Some (Concluded statements body)) is = λ i row less. absurd (omega arith)
   children-below nests id (Some (Hidden body)) is = λ i row less. absurd (omega arith)
   children-below nests id (Some (Separated policy position initiated slots)) is = λ i row less. absurd (omega arith)
 
@@ -370,9 +427,12 @@ module _ (input : Input) (table : Table) where
   enter-ahead nests held id (Some (Leaf prim)) k s is fits going =
       leaf-of input table one_row (Enter id) held (nil_values table.primitives s.instead)
       (slice_get table.primitives (read_by table.primitives s.instead prim)) k s (sees held s fits.stands fits) going
-  enter-ahead nests held id (Some (Elem name simple tried body)) k s is fits going =
-      let less : body < id = nests id (Elem name simple tried body) (slice_get_within table.rows id (Elem name simple tried body) is) is in
-      element-ahead held id (record { complex = has_elements simple; tried = tried; body = body }) k s (ap parts_of is) less tried.are_several
+  enter-ahead nests held id (Some (Elem name simple tried statements body)) k s is fits going =
+      let less : body < id = nests id (Elem name simple tried statements body) (slice_get_within table.rows id (Elem name simple tried statements body) is) is in
+      let start : Start = At (length s.nodes) in
+      behind-ahead statements start k one_row (element input id (has_elements simple) tried (below input table id body) s)
+      ∙ element-ahead held id (record { complex = has_elements simple; tried = tried; body = body }) (with_behind statements start k) s (ap parts_of is) less
+      tried.are_several
   enter-ahead nests held id (Some (Group children)) k s is fits going =
       group-ahead held id children k s (ap children_of is) (nests id (Group children) (slice_get_within table.rows id (Group children) is) is)
   enter-ahead nests held id (Some (Skip bits)) k s is fits going = enter-fill held (s.at + bits) k s (nat_le (s.at + bits) s.at) (nat_le (s.at + bits) s.stop)
@@ -411,8 +471,14 @@ module _ (input : Input) (table : Table) where
       (λ units at. box-ahead input table id (bits_of_units prefix.unit units) body k (record s { at = at }) less
       (nat_le (at + bits_of_units prefix.unit units) s.stop))
       held (slice_get table.primitives prefix.prim) (sees held s fits.stands fits) going
-  enter-ahead nests held id (Some (Test test)) k s is fits going =
-      test-ahead input table (Enter id) held test (slice_get table.tests test) k s (sees held s fits.stands fits) going
+  enter-ahead nests held id (Some (Statement number)) k s is fits going =
+      statement-ahead held id number (slice_get table.statements number) k s (sees held s fits.stands fits) going
+  enter-ahead nests held id (Some (Concluded statements body)) k s is fits going =
+      let less : body < id = nests id (Concluded statements body) (slice_get_within table.rows id (Concluded statements body) is) is in
+      let start : Start = Inside s.inside in
+      behind-ahead statements start k one_row (below input table id body s)
+      ∙ finish-spend input table (with_behind statements start k) one_row (below input table id body s)
+      ∙ ap (λ (o : Outcome). spend one_row (finish input table (with_behind statements start k) o)) (below-meaning input table id body s less)
   enter-ahead nests held id (Some (Hidden body)) k s is fits going =
       let less : body < id = nests id (Hidden body) (slice_get_within table.rows id (Hidden body) is) is in
       finish-spend input table k one_row (below input table id body s)
@@ -486,6 +552,10 @@ module _ (input : Input) (table : Table) where
       closing_failed-ahead input table held slot k s bit cause at (slots_from table slot) refl (slots-below table nests slot)
   leave-ahead nests held (Closing slot bit) (Stopped cause quantity) k s =
       closing_stopped-ahead input table held slot k s bit cause quantity
+  leave-ahead nests held (Concluding statements start) Done k s = after_nothing input table k (behind_done input.limits table statements start s)
+  leave-ahead nests held (Concluding statements start) (Failed cause bit) k s =
+      after_nothing input table k (ended (Failed cause bit) (reconsidered_from table start statements.first statements.count s))
+  leave-ahead nests held (Concluding statements start) (Stopped cause quantity) k s = after_nothing input table k (ended (Stopped cause quantity) s)
 
   pub step-ahead : Nests table.rows → (held : Held) (focus : Focus) (k : List Frame) (s : State) → Fits held input focus s
       → (step input.limits table held focus k s).waits ≡ false

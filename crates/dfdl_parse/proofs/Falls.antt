@@ -12,12 +12,13 @@ use Rattle.dfdl_terms.specs.declared.delimiters.Delimiters.{Delimiters}
 use Rattle.dfdl_terms.specs.declared.row.Primitive.{Primitive}
 use Rattle.dfdl_delims.specs.Longest.{Longest}
 use Rattle.dfdl_terms.specs.declared.row.Row.{Row}
-use Rattle.dfdl_terms.specs.declared.row.Row.TheVariants.{Leaf, Elem, Group, Skip, Align, Initiator, Terminator, Separator, Scope, Boxed, PrefixedLeaf, PrefixedBox, Repeat, Optional, Choice, Test, Hidden, Separated}
+use Rattle.dfdl_terms.specs.declared.row.Row.TheVariants.{Leaf, Elem, Group, Skip, Align, Initiator, Terminator, Separator, Scope, Boxed, PrefixedLeaf, PrefixedBox, Repeat, Optional, Choice, Statement, Concluded, Hidden, Separated}
 use Rattle.dfdl_terms.specs.Rows.{Table, Nests}
 use Rattle.dfdl_looks.specs.Asks.{Reached, Told, TooFar, Missing, Reading, ask}
 use Rattle.dfdl_looks.specs.Tallies.{Tally, needs_from, nothing, one_row, saw_byte}
 use Rattle.dfdl_grammar.specs.declared.end.End.{End}
 use Rattle.dfdl_grammar.specs.declared.end.End.TheVariants.{Done, Failed, Stopped}
+use Rattle.dfdl_grammar.specs.declared.end.Halt.TheVariants.{Limit}
 use Rattle.dfdl_grammar.specs.declared.limits.Limits.{Limits}
 use Rattle.dfdl_grammar.specs.States.{Input, State, anchor, anchor_at}
 use Rattle.dfdl_grammar.specs.Marks.{back, closed, is_settled, marked, pointed, stays_at}
@@ -34,7 +35,7 @@ use Rattle.dfdl_grammar.specs.Boxes.{boxed_at}
 use Rattle.dfdl_grammar.specs.Delimiters.{lists_of, markup, sought_among, stands_in}
 use Rattle.dfdl_grammar.specs.Elements.{begun, has_elements}
 use Rattle.dfdl_parse.specs.declared.frame.Frame.{Frame}
-use Rattle.dfdl_parse.specs.declared.frame.Frame.TheVariants.{Rest, Element, Box, Scope as ScopeFrame, Trial, Branch, Occurrence, Before, Content, Closing}
+use Rattle.dfdl_parse.specs.declared.frame.Frame.TheVariants.{Rest, Element, Box, Scope as ScopeFrame, Trial, Branch, Occurrence, Before, Content, Closing, Concluding}
 use Rattle.dfdl_parse.specs.declared.frame.Outside.{Outside}
 use Rattle.dfdl_parse.specs.declared.frame.Next.{Next}
 use Rattle.dfdl_parse.specs.declared.frame.Next.TheVariants as next
@@ -52,7 +53,12 @@ use Rattle.dfdl_parse.specs.Machines.{HasEnded, children_of, enter, enter_group,
 use Rattle.dfdl_parse.specs.Trials.{attempt, parts_of, refused, retry, trial_done, try_empty, try_nil, try_normal, two_rows}
 use Rattle.dfdl_parse.specs.Points.{try_branch, try_occurrence}
 use Rattle.dfdl_parse.specs.Testing.{is_unknown, landed_test, read_test, verdict_in}
-use Rattle.dfdl_terms.specs.declared.asserting.PatternTest.{PatternTest}
+use Rattle.dfdl_parse.specs.Stating.{make_statement, with_behind}
+use Rattle.dfdl_terms.specs.declared.statement.Statement.{Statement as AnyStatement}
+use Rattle.dfdl_terms.specs.declared.statement.Statement.TheVariants.{Pattern, Expression, Setting, Calculation}
+use Rattle.dfdl_paths.specs.declared.place.Start.TheVariants.{At, Inside}
+use Rattle.dfdl_parse.proofs.Stated.{few-behind}
+use Rattle.dfdl_terms.specs.declared.statement.PatternTest.{PatternTest}
 use Rattle.dfdl_texts.specs.Texts.{Text}
 use Rattle.dfdl_grammar.specs.Leaves.{text_sought}
 use Rattle.dfdl_parse.specs.Ahead.{ahead}
@@ -196,7 +202,7 @@ attempt-falls : (cost : Tally) (most : ℕ) (held : Held) (id : ℕ) (parts : Pa
     → 3 * length k + 3 < 16 * (cost.rows + cost.looks) + bound → (room : Bool)
     → let move : Move = cond room
     (pass cost held (Enter parts.body) (Element s.inside parts.complex ∷ k) (begun id instead s))
-    (pass cost held (Leave (Stopped Nodes most)) k s) in
+    (pass cost held (Leave (Stopped (Limit Nodes) most)) k s) in
     left_of move.machine < 16 * (move.tally.rows + move.tally.looks) + bound
 attempt-falls cost most held id parts instead k s bound some true = omega arith
 attempt-falls cost most held id parts instead k s bound some false = omega arith
@@ -217,11 +223,11 @@ module _ (cost : Tally) (most : ℕ) (held : Held) (id : ℕ) (parts : Parts) (k
   nil-falls None = empty-falls parts.tried.empty
   nil-falls (Some prim) = attempt-falls cost most held id parts (Nil prim) (Trial id next.Empty ∷ k) s bound (omega arith) (nat_lt (length s.nodes) most)
 
-element-falls : (most : ℕ) (held : Held) (id : ℕ) (parts : Parts) (k : List Frame) (s : State) (several : Bool)
-    → Falls (Enter id) k (cond several
+element-falls : (most : ℕ) (held : Held) (id : ℕ) (parts : Parts) (k : List Frame) (s : State) (bound : ℕ) → 3 * length k + 6 < 32 + bound → (several : Bool)
+    → HasFallen bound (cond several
     (try_nil two_rows most held id parts parts.tried.nil k (marked s)) (attempt two_rows most held id parts Nothing k s))
-element-falls most held id parts k s true = nil-falls two_rows most held id parts k (marked s) (3 * length k + mode (Enter id)) (omega arith) parts.tried.nil
-element-falls most held id parts k s false = attempt-falls two_rows most held id parts Nothing k s (3 * length k + mode (Enter id)) (omega arith) (nat_lt (length s.nodes) most)
+element-falls most held id parts k s bound few true = nil-falls two_rows most held id parts k (marked s) bound (omega arith) parts.tried.nil
+element-falls most held id parts k s bound few false = attempt-falls two_rows most held id parts Nothing k s bound (omega arith) (nat_lt (length s.nodes) most)
 
 retry-falls : (most : ℕ) (held : Held) (id : ℕ) (parts : Option Parts) (follows : Next) (end : End) (k : List Frame) (s : State)
     → Falls (Leave end) (Trial id follows ∷ k) (retry most held id parts follows end k s)
@@ -283,13 +289,21 @@ verdict-falls limits focus test number (Told holds) k s going = refl
 verdict-falls limits focus test number TooFar k s going = refl
 verdict-falls limits focus test number Missing k s going = absurd (cc)
 
-test-falls : (limits : Limits) (held : Held) (id number : ℕ) (test : Option PatternTest) (k : List Frame) (s : State)
+test-falls : (limits : Limits) (held : Held) (id number : ℕ) (test : PatternTest) (k : List Frame) (s : State)
     → (read_test one_row limits (Enter id) held number test k s).waits ≡ false → Falls (Enter id) k (read_test one_row limits (Enter id) held number test k s)
-test-falls limits held id number None k s going = omega arith
-test-falls limits held id number (Some test) k s going =
+test-falls limits held id number test k s going =
     let here : Reading Text = ask (seen_at (from_byte held (anchor s))) (text_sought test.form (aligned 8 s.at) s.stop) nothing in
     let falls = verdict-falls limits (Enter id) test number (verdict_in test.form here.reached) k s going in
     omega arith
+
+statement-falls : (limits : Limits) (table : Table) (held : Held) (id number : ℕ) (found : Option AnyStatement) (k : List Frame) (s : State)
+    → (make_statement one_row limits table (Enter id) held number found k s).waits ≡ false
+    → Falls (Enter id) k (make_statement one_row limits table (Enter id) held number found k s)
+statement-falls limits table held id number None k s going = omega arith
+statement-falls limits table held id number (Some (Pattern test)) k s going = test-falls limits held id number test k s going
+statement-falls limits table held id number (Some (Expression test)) k s going = omega arith
+statement-falls limits table held id number (Some (Setting setting)) k s going = omega arith
+statement-falls limits table held id number (Some (Calculation calculation)) k s going = omega arith
 
 passed-falls : (held : Held) (body : ℕ) (initiated : Bool) (left : ℕ) (k : List Frame) (s : State) (stays : Bool)
     → Falls (Leave Done) (Occurrence body initiated left ∷ k)
@@ -353,8 +367,10 @@ enter-falls limits table held id None k s going = omega arith
 enter-falls limits table held id (Some (Leaf prim)) k s going =
     leaf-falls one_row limits (Enter id) held table.delimiters (nil_values table.primitives s.instead)
     (slice_get table.primitives (read_by table.primitives s.instead prim)) k s (omega arith) going
-enter-falls limits table held id (Some (Elem name simple tried body)) k s going =
-    element-falls limits.nodes held id (record { complex = has_elements simple; tried = tried; body = body }) k s tried.are_several
+enter-falls limits table held id (Some (Elem name simple tried statements body)) k s going =
+    let few = few-behind statements (At (length s.nodes)) k in
+    element-falls limits.nodes held id (record { complex = has_elements simple; tried = tried; body = body }) (with_behind statements (At (length s.nodes)) k) s
+    (3 * length k + mode (Enter id)) (omega arith) tried.are_several
 enter-falls limits table held id (Some (Group children)) k s going = group-falls held id children k s
 enter-falls limits table held id (Some (Skip bits)) k s going =
     begin-falls held id (s.at + bits) k s (nat_le (s.at + bits) s.at) (nat_le (s.at + bits) s.stop)
@@ -380,7 +396,8 @@ enter-falls limits table held id (Some (PrefixedBox prefix body)) k s going =
     prefix-falls limits table.delimiters id prefix.own (behind_units table.primitives prefix.unit (behind.Box body)) k
     (λ units after. box-begun-falls (bits_of_units prefix.unit units) body k after (nat_le (after.at + bits_of_units prefix.unit units) after.stop))
     held (slice_get table.primitives prefix.prim) s
-enter-falls limits table held id (Some (Test test)) k s going = test-falls limits held id test (slice_get table.tests test) k s going
+enter-falls limits table held id (Some (Statement number)) k s going = statement-falls limits table held id number (slice_get table.statements number) k s going
+enter-falls limits table held id (Some (Concluded statements body)) k s going = let few = few-behind statements (Inside s.inside) k in omega arith
 enter-falls limits table held id (Some (Hidden body)) k s going = omega arith
 enter-falls limits table held id (Some (Separated policy position initiated slots)) k s going =
     separated-has (HasFallen (3 * length k + mode (Enter id))) Any held initiated k (λ here t any. tt)
@@ -429,6 +446,8 @@ leave-falls limits table held (Closing slot bit) (Failed cause at) k s =
     let bound : ℕ = 3 * length (Closing slot bit ∷ k) + mode (Leave (Failed cause at)) in
     closing-has (HasFallen bound) Any held (separation_at table slot).initiated k (λ here t any. tt) (slot-ways nothing held k bound (omega arith))
     slot s tt (λ here. tt) (λ here. tt) bit (slots_from table slot) false (Failed cause at)
+leave-falls limits table held (Concluding statements start) Done k s = omega arith
+leave-falls limits table held (Concluding statements start) (Failed cause bit) k s = omega arith
 leave-falls limits table held frame (Stopped cause quantity) k s = omega arith
 
 -- a question of a slot falls from the focus in which it waits

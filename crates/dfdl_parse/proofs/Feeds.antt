@@ -138,12 +138,12 @@ over input table root p held looks_made ended_here runs =
 
 -- a machine that begins at a byte stands in the work on the document from there on
 pub stands_first : (limits : Limits) (table : Table) (p : Parser) (held : Held) (start : ℕ) (bytes : List ℕ) → p.focus ≡ Enter (length table.rows - 1)
-    → p.stack ≡ [] → state_of p ≡ front_at start → p.far ≡ 0 → Agrees held bytes → held.size ≡ limits.window
+    → p.stack ≡ [] → state_of p ≡ front_at table start → p.far ≡ 0 → Agrees held bytes → held.size ≡ limits.window
     → Runs (record { bytes = bytes; limits = limits }) table (document_from limits table start bytes) (shown p) held 0 p.far
 unfolding finish
 stands_first limits table p held start bytes focus stack front_is far agrees size =
     let input : Input = record { bytes = bytes; limits = limits } in
-    let machine : shown p ≡ record { focus = Enter (length table.rows - 1); stack = []; state = front_at start } =
+    let machine : shown p ≡ record { focus = Enter (length table.rows - 1); stack = []; state = front_at table start } =
     ap (λ (f : Focus). record { focus = f; stack = p.stack; state = state_of p }) focus
     ∙ ap (λ (k : List Frame). record { focus = Enter (length table.rows - 1); stack = k; state = state_of p }) stack
     ∙ ap (λ (s : State). record { focus = Enter (length table.rows - 1); stack = []; state = s }) front_is in

@@ -9,6 +9,7 @@ use Rattle.dfdl_looks.specs.Asks.{Reached, Told, TooFar, Missing}
 use Rattle.dfdl_looks.specs.Tallies.{Tally, nothing}
 use Rattle.dfdl_grammar.specs.declared.end.End.{End}
 use Rattle.dfdl_grammar.specs.declared.end.End.TheVariants.{Done, Failed, Stopped}
+use Rattle.dfdl_grammar.specs.declared.end.Halt.TheVariants.{Limit}
 use Rattle.dfdl_grammar.specs.declared.limits.Limits.{Limits}
 use Rattle.dfdl_grammar.specs.declared.mark.Mark.{Mark}
 use Rattle.dfdl_grammar.specs.Delimiters.{unscoped}
@@ -24,7 +25,10 @@ use Rattle.dfdl_grammar.specs.Representations.{after_empty, or_else, refuse, ref
 use Rattle.dfdl_grammar.specs.Rows.{below, group, meaning}
 use Rattle.dfdl_grammar.proofs.Spending.{spend-nothing, spend-spend, follow-spend, close-spend}
 use Rattle.dfdl_parse.specs.declared.frame.Frame.{Frame}
-use Rattle.dfdl_parse.specs.declared.frame.Frame.TheVariants.{Rest, Element, Box, Scope as ScopeFrame, Trial, Branch, Occurrence, Before, Content, Closing}
+use Rattle.dfdl_parse.specs.declared.frame.Frame.TheVariants.{Rest, Element, Box, Scope as ScopeFrame, Trial, Branch, Occurrence, Before, Content, Closing, Concluding}
+use Rattle.dfdl_terms.specs.declared.statement.Statements.{Statements}
+use Rattle.dfdl_paths.specs.declared.place.Start.{Start}
+use Rattle.dfdl_grammar.specs.Statements.{concluded_at}
 use Rattle.dfdl_parse.specs.declared.frame.Next.{Next}
 use Rattle.dfdl_parse.specs.declared.frame.Next.TheVariants as next
 use Rattle.dfdl_parse.specs.declared.frame.Parts.{Parts}
@@ -75,7 +79,7 @@ found TooFar is missing = absurd (cc)
 found Missing is missing = absurd (cc)
 
 -- what a reading makes of the state costs nothing more
-hold-nothing : (room : Bool) (s t : State) (most : ℕ) → (cond room (ended Done s) (ended (Stopped TextLimit most) t)).tally ≡ nothing
+hold-nothing : (room : Bool) (s t : State) (most : ℕ) → (cond room (ended Done s) (ended (Stopped (Limit TextLimit) most) t)).tally ≡ nothing
 hold-nothing true s t most = refl
 hold-nothing false s t most = refl
 
@@ -154,6 +158,13 @@ occurrence-spend Done t o next = stayed-spend t o next (stays_at o.state.marks o
 occurrence-spend (Failed cause bit) t o next = lost-spend t o (is_settled o.state.marks)
 occurrence-spend (Stopped cause quantity) t o next = refl
 
+-- and in a component with statements behind it
+pub concluded-spend : (end : End) (limits : Limits) (table : Table) (start : Start) (statements : Statements) (t : Tally) (o : Outcome)
+    → concluded_at end limits table start statements (spend t o) ≡ spend t (concluded_at end limits table start statements o)
+concluded-spend Done limits table start statements t o = refl
+concluded-spend (Failed cause bit) limits table start statements t o = refl
+concluded-spend (Stopped cause quantity) limits table start statements t o = refl
+
 module _ (input : Input) (table : Table) where
   pub retried-spend : (id : ℕ) (parts : Option Parts) (follows : Next) (t : Tally) (o : Outcome)
       → retried input table id parts follows (spend t o) ≡ spend t (retried input table id parts follows o)
@@ -175,6 +186,7 @@ module _ (input : Input) (table : Table) where
   resume-spend (Before slot) t o = before_slot-spend (sequence_of input table slot.sequence) slot (slots_from table slot) t o
   resume-spend (Content slot bit empty) t o = content_slot-spend (sequence_of input table slot.sequence) slot bit empty (slots_from table slot) t o
   resume-spend (Closing slot bit) t o = closing_slot-spend (sequence_of input table slot.sequence) slot bit (slots_from table slot) t o
+  resume-spend (Concluding statements start) t o = concluded-spend o.end input.limits table start statements t o
 
   pub finish-spend : (k : List Frame) (t : Tally) (o : Outcome) → finish input table k (spend t o) ≡ spend t (finish input table k o)
   unfolding finish

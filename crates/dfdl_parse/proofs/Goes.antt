@@ -58,9 +58,6 @@ still_keeps a b limits same keeps = (keeps.0 ∙ sym same.0, keeps.1 ∙ sym sam
 pub keeps_first : (a b : Parser) (held : Held) → HasSameLimits a b → KeepsTo b (limits_of a held)
 keeps_first a b held same = (sym same.0, sym same.1.0)
 
-pub same_twice : (a b c : Parser) → HasSameLimits a b → HasSameLimits b c → HasSameLimits a c
-same_twice a b c one two = (two.0 ∙ one.0, (two.1.0 ∙ one.1.0, two.1.1 ∙ one.1.1))
-
 -- the window holds the bytes that are needed next
 anchored_at : (held : Held) (s : State) → IsHeld held.base s.at s → s.at ≤ 8 * end_of held → Anchored held s
 anchored_at held s here at = let low = here.1 in record { base = here.0; end = omega arith; low = low }

@@ -9,7 +9,7 @@ use Rattle.dfdl_terms.specs.declared.prefix.LengthUnit.{LengthUnit}
 use Rattle.dfdl_value.specs.declared.value.Value.{Value}
 use Rattle.dfdl_terms.specs.declared.row.Primitive.{Primitive}
 use Rattle.dfdl_terms.specs.declared.row.Row.{Row}
-use Rattle.dfdl_terms.specs.declared.row.Row.TheVariants.{Leaf, Boxed, Scope, Separated, Test}
+use Rattle.dfdl_terms.specs.declared.row.Row.TheVariants.{Leaf, Boxed, Scope, Separated, Statement, Concluded}
 use Rattle.dfdl_terms.specs.declared.text.TextSize.{TextSize}
 use Rattle.dfdl_terms.specs.Rows.{Table}
 use Rattle.dfdl_looks.specs.Asks.{Ask, ask}
@@ -33,7 +33,9 @@ use Rattle.dfdl_parse.specs.declared.frame.Sought.{Sought}
 use Rattle.dfdl_parse.specs.Moves.{Move, pass, read_leaf}
 use Rattle.dfdl_parse.specs.Searches.{among, place_of, search, search_move}
 use Rattle.dfdl_parse.specs.Machines.{enter, enter_box}
-use Rattle.dfdl_parse.specs.Testing.{read_test}
+use Rattle.dfdl_terms.specs.declared.statement.Statements.{Statements}
+use Rattle.dfdl_paths.specs.declared.place.Start.TheVariants.{Inside}
+use Rattle.dfdl_parse.specs.Stating.{make_statement, with_behind}
 use Rattle.dfdl_parse.specs.Prefixed.{behind_units, box_begins, read_resized, read_sized, sized_begins}
 use Rattle.dfdl_separators.specs.declared.policy.SeparatorPosition.{SeparatorPosition}
 use Rattle.dfdl_separators.specs.declared.policy.SeparatorSuppressionPolicy.{SeparatorSuppressionPolicy}
@@ -41,6 +43,19 @@ use Rattle.dfdl_terms.specs.declared.slots.Slot.{Slot}
 use Rattle.dfdl_parse.specs.Slots.{enter_separated}
 use Rattle.dfdl_parse.specs.Steps.{Moved}
 use Rattle.dfdl_parse.specs.Shown.{Becomes, HasSameLimits, limits_of, shown, state_of}
+use Rattle.std.proofs.Common.{cond}
+use Rattle.dfdl_parse.specs.Moves.{Machine}
+use Rattle.dfdl_grammar.specs.Leaves.{has_room}
+use Rattle.dfdl_grammar.specs.Leaves.{content_begins}
+use Rattle.dfdl_grammar.specs.Leaves.{program}
+use Rattle.dfdl_parse.specs.Prefixed.{prefix_move}
+use Rattle.dfdl_parse.specs.Prefixed.{read_prefix}
+use Rattle.dfdl_grammar.specs.States.{anchor}
+use Rattle.dfdl_grammar.specs.Delimiters.{lists_of}
+use Rattle.dfdl_grammar.specs.Delimiters.{markup}
+use Rattle.dfdl_parse.specs.declared.frame.Focus.TheVariants.{Leave}
+use Rattle.dfdl_grammar.specs.declared.end.End.TheVariants.{Failed}
+use Rattle.dfdl_report.specs.declared.cause.ParseCause.TheVariants.{LengthOutOfRange}
 
 -- a step of the parser that differs in what it has read, at the place and the window that the clause speaks of
 pub moved-at : (old mid new : Parser) (begins first : ℕ) (held there : Held) (waited : Bool) (looks : ℕ) (move : Parser → ℕ → Held → Move)
@@ -62,6 +77,18 @@ asked-moved old mid new held there waited looks move same is moved =
     let one : Moved (move (record old { scratch = mid.scratch }) there) waited old.far new there looks =
     subst (λ (p : Parser). Moved (move p there) waited p.far new there looks) same moved in
     subst (λ (h : Held). Moved (move (record old { scratch = mid.scratch }) h) waited old.far new there looks) is one
+
+-- a prefix whose box ends in the one around it
+pub prefix-moved : (limits : Limits) (held : Held) (delimiters : List Delimiters) (id own : ℕ) (next : ℕ → List Frame → State → Machine) (primitive : Primitive) (k : List Frame) (s : State)
+    (waited : Bool) (far : ℕ) (new : Parser) (now_held : Held) (looks : ℕ) → has_room primitive s.at s.stop ≡ true
+    → Moved (prefix_move limits id own (content_begins primitive s.at) next (from_byte held (anchor s))
+    (ask (seen_at (from_byte held (anchor s))) (program (lists_of delimiters (markup s)) primitive s.at s.stop) nothing) k s) waited far new now_held looks
+    → Moved (read_prefix limits id held delimiters own next (Some primitive) k s) waited far new now_held looks
+prefix-moved limits held delimiters id own next primitive k s waited far new now_held looks room moved =
+    subst (λ (b : Bool). Moved (cond b
+    (prefix_move limits id own (content_begins primitive s.at) next (from_byte held (anchor s))
+    (ask (seen_at (from_byte held (anchor s))) (program (lists_of delimiters (markup s)) primitive s.at s.stop) nothing) k s)
+    (pass one_row held (Leave (Failed LengthOutOfRange s.at)) k s)) waited far new now_held looks) (sym room) moved
 
 -- a leaf that has the size that was told
 pub sized-moved : (limits : Limits) (held : Held) (delimiters : List Delimiters) (nil : Option (List Value)) (focus : Focus) (prim : ℕ) (size : TextSize) (primitives : List Primitive) (first primitive : Primitive) (k : List Frame) (s : State)
@@ -132,14 +159,14 @@ module _ (limits : Limits) (table : Table) (held : Held) (id : ℕ) (r : Row) (k
       (subst (λ (f : Focus). Moved (read_leaf one_row limits f held table.delimiters (nil_values table.primitives s.instead)
       (slice_get table.primitives (read_by table.primitives s.instead prim)) k s) waited far new now_held looks) enters moved)
 
-  -- a test is entered
-  pub test-entered : (focus : Focus) (number : ℕ) (waited : Bool) (now_held : Held) (looks : ℕ) → r ≡ Test number → focus ≡ Enter id
-      → Moved (read_test one_row limits focus held number (slice_get table.tests number) k s) waited far new now_held looks
+  -- a statement is entered
+  pub statement-entered : (focus : Focus) (number : ℕ) (waited : Bool) (now_held : Held) (looks : ℕ) → r ≡ Statement number → focus ≡ Enter id
+      → Moved (make_statement one_row limits table focus held number (slice_get table.statements number) k s) waited far new now_held looks
       → Moved (enter limits table held id (slice_get table.rows id) k s) waited far new now_held looks
-  test-entered focus number waited now_held looks is enters moved =
-      let row_is : slice_get table.rows id ≡ Some (Test number) = at ∙ ap (λ (x : Row). Some x) is in
+  statement-entered focus number waited now_held looks is enters moved =
+      let row_is : slice_get table.rows id ≡ Some (Statement number) = at ∙ ap (λ (x : Row). Some x) is in
       subst (λ (o : Option Row). Moved (enter limits table held id o k s) waited far new now_held looks) (sym row_is)
-      (subst (λ (f : Focus). Moved (read_test one_row limits f held number (slice_get table.tests number) k s) waited far new now_held looks) enters moved)
+      (subst (λ (f : Focus). Moved (make_statement one_row limits table f held number (slice_get table.statements number) k s) waited far new now_held looks) enters moved)
 
   -- a box is entered
   pub box-entered : (bits body looks : ℕ) → r ≡ Boxed bits body → looks ≡ 0
@@ -157,6 +184,15 @@ module _ (limits : Limits) (table : Table) (held : Held) (id : ℕ) (r : Row) (k
       let row_is : slice_get table.rows id ≡ Some (Scope list body) = at ∙ ap (λ (x : Row). Some x) is in
       subst (λ (o : Option Row). Moved (enter limits table held id o k s) false far new held looks) (sym row_is)
       (subst (λ (n : ℕ). Moved (pass one_row held (Enter body) (ScopeFrame (length s.lists) ∷ k) (opens list s)) false far new held n) (sym none) moved)
+
+  -- a component with statements behind it is entered
+  pub concluded-entered : (statements : Statements) (body looks : ℕ) → r ≡ Concluded statements body → looks ≡ 0
+      → Moved (pass one_row held (Enter body) (with_behind statements (Inside s.inside) k) s) false far new held 0
+      → Moved (enter limits table held id (slice_get table.rows id) k s) false far new held looks
+  concluded-entered statements body looks is none moved =
+      let row_is : slice_get table.rows id ≡ Some (Concluded statements body) = at ∙ ap (λ (x : Row). Some x) is in
+      subst (λ (o : Option Row). Moved (enter limits table held id o k s) false far new held looks) (sym row_is)
+      (subst (λ (n : ℕ). Moved (pass one_row held (Enter body) (with_behind statements (Inside s.inside) k) s) false far new held n) (sym none) moved)
 
   -- a sequence with separators is entered
   pub separated-entered : (policy : SeparatorSuppressionPolicy) (position : SeparatorPosition) (initiated : Bool) (slots : List Slot) (looks : ℕ)

@@ -2,6 +2,8 @@ pub mod Windows
 pub mod Opens
 pub mod Innermost
 pub mod Resolved
+pub mod Stated
+pub mod Statings
 pub mod Beyond
 pub mod Lists
 pub mod Finishes

@@ -13,12 +13,13 @@ use Rattle.dfdl_terms.specs.declared.delimiters.Delimiters.{Delimiters}
 use Rattle.dfdl_terms.specs.declared.row.Primitive.{Primitive}
 use Rattle.dfdl_delims.specs.Longest.{Longest, Text, NoText}
 use Rattle.dfdl_terms.specs.declared.row.Row.{Row}
-use Rattle.dfdl_terms.specs.declared.row.Row.TheVariants.{Leaf, Elem, Group, Skip, Align, Initiator, Terminator, Separator, Scope, Boxed, PrefixedLeaf, PrefixedBox, Repeat, Optional, Choice, Test, Hidden, Separated}
+use Rattle.dfdl_terms.specs.declared.row.Row.TheVariants.{Leaf, Elem, Group, Skip, Align, Initiator, Terminator, Separator, Scope, Boxed, PrefixedLeaf, PrefixedBox, Repeat, Optional, Choice, Statement, Concluded, Hidden, Separated}
 use Rattle.dfdl_terms.specs.Rows.{Table}
 use Rattle.dfdl_looks.specs.Asks.{Reached, Told, TooFar, Missing, ask}
 use Rattle.dfdl_looks.specs.Tallies.{Tally, needs_from, nothing, one_row, saw_byte}
 use Rattle.dfdl_grammar.specs.declared.end.End.{End}
 use Rattle.dfdl_grammar.specs.declared.end.End.TheVariants.{Done, Failed, Stopped}
+use Rattle.dfdl_grammar.specs.declared.end.Halt.TheVariants.{Limit}
 use Rattle.dfdl_grammar.specs.declared.limits.Limits.{Limits}
 use Rattle.dfdl_grammar.specs.Outcomes.{Outcome, ended}
 use Rattle.dfdl_grammar.specs.States.{State, anchor, anchor_at}
@@ -35,7 +36,7 @@ use Rattle.dfdl_grammar.specs.Boxes.{boxed_at}
 use Rattle.dfdl_grammar.specs.Delimiters.{lists_of, markup, opens, passed_text, sought_among, stands_in}
 use Rattle.dfdl_grammar.specs.Elements.{begun, has_elements}
 use Rattle.dfdl_parse.specs.declared.frame.Frame.{Frame}
-use Rattle.dfdl_parse.specs.declared.frame.Frame.TheVariants.{Rest, Element, Box, Scope as ScopeFrame, Trial, Branch, Occurrence, Before, Content, Closing}
+use Rattle.dfdl_parse.specs.declared.frame.Frame.TheVariants.{Rest, Element, Box, Scope as ScopeFrame, Trial, Branch, Occurrence, Before, Content, Closing, Concluding}
 use Rattle.dfdl_parse.specs.declared.frame.Outside.{Outside}
 use Rattle.dfdl_parse.specs.declared.frame.Next.{Next}
 use Rattle.dfdl_parse.specs.declared.frame.Next.TheVariants as next
@@ -54,8 +55,19 @@ use Rattle.dfdl_parse.specs.Opens.{AreOpen, IsHeld, NeedsBehind, NeedsFrom, poin
 use Rattle.dfdl_parse.specs.Trials.{attempt, parts_of, refused, retry, trial_done, try_empty, try_nil, try_normal, two_rows}
 use Rattle.dfdl_parse.specs.Points.{try_branch, try_occurrence}
 use Rattle.dfdl_parse.specs.Testing.{landed_test, read_test, verdict_in}
+use Rattle.dfdl_parse.specs.Stating.{behind_done, make_statement, with_behind}
+use Rattle.dfdl_terms.specs.declared.statement.Statement.{Statement as AnyStatement}
+use Rattle.dfdl_terms.specs.declared.statement.Statement.TheVariants.{Pattern, Expression, Setting, Calculation}
+use Rattle.dfdl_terms.specs.declared.statement.Statements.{Statements}
+use Rattle.dfdl_paths.specs.declared.place.Start.{Start}
+use Rattle.dfdl_paths.specs.declared.place.Start.TheVariants.{At, Inside}
+use Rattle.dfdl_region.specs.declared.node.Node.{Node}
+use Rattle.dfdl_vars.specs.Kept.{Kept}
+use Rattle.dfdl_grammar.specs.declared.end.Halt.{Halt}
+use Rattle.dfdl_grammar.specs.Statements.{reconsidered_from, stated}
+use Rattle.dfdl_parse.proofs.Stated.{all-again, behind-comes, stated-comes}
 use Rattle.dfdl_parse.proofs.Resolved.{sought-comes, tested-comes}
-use Rattle.dfdl_terms.specs.declared.asserting.PatternTest.{PatternTest}
+use Rattle.dfdl_terms.specs.declared.statement.PatternTest.{PatternTest}
 use Rattle.dfdl_parse.proofs.Beyond.{beyond-byte}
 use Rattle.dfdl_parse.proofs.Opens.{IsMarked, back-closed, back-open, closed-open, later, lower, mark-back-open, mark-open, resolved-open, risen, some-mark, stayed-closed}
 use Rattle.dfdl_leaves.proofs.Texts.{EndsBehind, program_for-ends}
@@ -79,7 +91,7 @@ abbrev IsLowFrom : ℕ → Machine → Type 0
 IsLowFrom low m = NeedsFrom low m.focus m.stack m.state
 
 held-low : (room : Bool) (low : ℕ) (k : List Frame) (s t : State) (most : ℕ) → low ≤ s.at / 8 → AreOpen low s.at k s.marks
-    → NeedsFrom low (Leave (cond room (ended Done s) (ended (Stopped TextLimit most) t)).end) k (cond room (ended Done s) (ended (Stopped TextLimit most) t)).state
+    → NeedsFrom low (Leave (cond room (ended Done s) (ended (Stopped (Limit TextLimit) most) t)).end) k (cond room (ended Done s) (ended (Stopped (Limit TextLimit) most) t)).state
 held-low true low k s t most is opens = (is, opens)
 held-low false low k s t most is opens = tt
 
@@ -172,31 +184,79 @@ text-low window what low (Told (Text which bits)) k s base opens =
     (one-text-low (cause_of what) bits low k s base opens (nat_eq which (place_of what s) && nat_lt 0 bits))
 text-low window what low (Told NoText) k s base opens =
     sought-comes (LowBehind low k) (resolved-low low k) what (ended (Failed (cause_of what) s.at) s) opens
-text-low window what low TooFar k s base opens = sought-comes (LowBehind low k) (resolved-low low k) what (ended (Stopped Window window) s) tt
+text-low window what low TooFar k s base opens = sought-comes (LowBehind low k) (resolved-low low k) what (ended (Stopped (Limit Window) window) s) tt
 text-low window what low Missing k s base opens = (base, opens)
 
 -- a test
 verdict-low : (limits : Limits) (id number low : ℕ) (test : PatternTest) (reached : Reached Bool) (k : List Frame) (s : State) → low ≤ s.at / 8 → AreOpen low s.at k s.marks
     → IsLowFrom low (landed_test limits (Enter id) test number reached k s)
 verdict-low limits id number low test (Told holds) k s is opens =
-    tested-comes (LowBehind low k) (resolved-low low k) test number holds s (is, opens) opens
+    tested-comes (LowBehind low k) (resolved-low low k) test.discriminates number holds s (is, opens) opens
 verdict-low limits id number low test TooFar k s is opens = tt
 verdict-low limits id number low test Missing k s is opens = (is, opens)
 
-test-low : (limits : Limits) (held : Held) (id number : ℕ) (test : Option PatternTest) (k : List Frame) (s : State) → Anchored held s → held.base ≤ s.at / 8
+test-low : (limits : Limits) (held : Held) (id number : ℕ) (test : PatternTest) (k : List Frame) (s : State) → Anchored held s → held.base ≤ s.at / 8
     → AreOpen held.base s.at k s.marks → IsLow (read_test one_row limits (Enter id) held number test k s)
-test-low limits held id number None k s stands low opens = (low, opens)
-test-low limits held id number (Some test) k s stands low opens =
+test-low limits held id number test k s stands low opens =
     verdict-low limits id number (anchor s) test
     (verdict_in test.form (ask (seen_at (from_byte held (anchor s))) (text_sought test.form (aligned 8 s.at) s.stop) nothing).reached) k s stands.low
     (risen held.base s.at s.at k s.marks opens)
+
+-- a statement
+module _ (low : ℕ) (k : List Frame) where
+  still-low : (s : State) (nodes : List Node) (text : List ℕ) (variables : Kept) → LowBehind low k Done s
+      → LowBehind low k Done (record s { nodes = nodes; text = text; variables = variables })
+  still-low s nodes text variables needs = needs
+
+  fails-low : (s : State) (cause : ParseCause) → LowBehind low k Done s → LowBehind low k (Failed cause s.at) s
+  fails-low s cause needs = needs.1
+
+  stops-low : (s : State) (cause : Halt) (quantity : ℕ) → LowBehind low k Done s → LowBehind low k (Stopped cause quantity) s
+  stops-low s cause quantity needs = tt
+
+  tells-low : (end : End) (s : State) (inside : ℕ) → LowBehind low k end s → LowBehind low k end (record s { inside = inside })
+  tells-low Done s inside needs = needs
+  tells-low (Failed cause bit) s inside needs = needs
+  tells-low (Stopped cause quantity) s inside needs = tt
+
+  stated-low : (limits : Limits) (table : Table) (start : Start) (number : ℕ) (found : Option AnyStatement) (s : State) → LowBehind low k Done s
+      → let o : Outcome = stated limits table start number found s in LowBehind low k o.end o.state
+  stated-low = stated-comes (LowBehind low k) (resolved-low low k) still-low fails-low stops-low
+
+  concluded-low : (limits : Limits) (table : Table) (statements : Statements) (start : Start) (s : State) → LowBehind low k Done s
+      → let o : Outcome = behind_done limits table statements start s in LowBehind low k o.end o.state
+  concluded-low = behind-comes (LowBehind low k) (resolved-low low k) still-low fails-low stops-low tells-low
+
+  again-low : (table : Table) (start : Start) (first count : ℕ) (s : State) → AreOpen low s.at k s.marks
+      → let t : State = reconsidered_from table start first count s in AreOpen low t.at k t.marks
+  again-low = all-again (λ t. AreOpen low t.at k t.marks) (λ t opens. resolved-open low t.at k t.marks opens) (λ t variables opens. opens)
+
+statement-low : (limits : Limits) (table : Table) (held : Held) (id number : ℕ) (found : Option AnyStatement) (k : List Frame) (s : State) → Anchored held s
+    → held.base ≤ s.at / 8 → AreOpen held.base s.at k s.marks → IsLow (make_statement one_row limits table (Enter id) held number found k s)
+statement-low limits table held id number None k s stands low opens = (low, opens)
+statement-low limits table held id number (Some (Pattern test)) k s stands low opens = test-low limits held id number test k s stands low opens
+statement-low limits table held id number (Some (Expression test)) k s stands low opens =
+    stated-low held.base k limits table (Inside s.inside) number (Some (Expression test)) s (low, opens)
+statement-low limits table held id number (Some (Setting setting)) k s stands low opens =
+    stated-low held.base k limits table (Inside s.inside) number (Some (Setting setting)) s (low, opens)
+statement-low limits table held id number (Some (Calculation calculation)) k s stands low opens =
+    stated-low held.base k limits table (At s.inside) number (Some (Calculation calculation)) s (low, opens)
+
+-- the statements behind a component go back to no mark
+behind-open : (base at : ℕ) (marks : List Mark) (statements : Statements) (start : Start) (k : List Frame) → AreOpen base at k marks
+    → AreOpen base at (with_behind statements start k) marks
+behind-open base at marks statements start k opens = by (nat_eq statements.count 0)
+  where
+    by : (none : Bool) → AreOpen base at (cond none k (Concluding statements start ∷ k)) marks
+    by true = opens
+    by false = opens
 
 -- one representation of an element
 attempt-low : (cost : Tally) (most : ℕ) (held : Held) (id : ℕ) (parts : Parts) (instead : Instead) (k : List Frame) (s : State)
     → held.base ≤ s.at / 8 → AreOpen held.base s.at k s.marks → (room : Bool)
     → IsLow (cond room
     (pass cost held (Enter parts.body) (Element s.inside parts.complex ∷ k) (begun id instead s))
-    (pass cost held (Leave (Stopped Nodes most)) k s))
+    (pass cost held (Leave (Stopped (Limit Nodes) most)) k s))
 attempt-low cost most held id parts instead k s low opens true = (low, opens)
 attempt-low cost most held id parts instead k s low opens false = tt
 
@@ -360,8 +420,9 @@ module _ (held : Held) (s : State) where
   enter-low limits table id (Some (Leaf prim)) k stands low opens =
       leaf-low one_row limits (Enter id) table.delimiters (nil_values table.primitives s.instead)
       (slice_get table.primitives (read_by table.primitives s.instead prim)) k stands (stands.low, risen held.base s.at s.at k s.marks opens) low opens
-  enter-low limits table id (Some (Elem name simple tried body)) k stands low opens =
-      element-low limits.nodes id (record { complex = has_elements simple; tried = tried; body = body }) k low opens tried.are_several
+  enter-low limits table id (Some (Elem name simple tried statements body)) k stands low opens =
+      element-low limits.nodes id (record { complex = has_elements simple; tried = tried; body = body }) (with_behind statements (At (length s.nodes)) k) low
+      (behind-open held.base s.at s.marks statements (At (length s.nodes)) k opens) tried.are_several
   enter-low limits table id (Some (Group children)) k stands low opens = group-low id children k low opens
   enter-low limits table id (Some (Skip bits)) k stands low opens =
       begin-low (s.at + bits) k low opens (nat_le (s.at + bits) s.at) (nat_le (s.at + bits) s.stop) refl
@@ -383,7 +444,10 @@ module _ (held : Held) (s : State) where
   enter-low limits table id (Some (PrefixedBox prefix body)) k stands low opens =
       prefix-low limits table.delimiters id prefix.own (behind_units table.primitives prefix.unit (behind.Box body)) (slice_get table.primitives prefix.prim) k stands opens
       (λ units after is still. box-begun-low (anchor s) (bits_of_units prefix.unit units) body k after is still (nat_le (after.at + bits_of_units prefix.unit units) after.stop))
-  enter-low limits table id (Some (Test test)) k stands low opens = test-low limits held id test (slice_get table.tests test) k s stands low opens
+  enter-low limits table id (Some (Statement number)) k stands low opens =
+      statement-low limits table held id number (slice_get table.statements number) k s stands low opens
+  enter-low limits table id (Some (Concluded statements body)) k stands low opens =
+      (low, behind-open held.base s.at s.marks statements (Inside s.inside) k opens)
   enter-low limits table id (Some (Hidden body)) k stands low opens = (low, opens)
   enter-low limits table id (Some (Separated policy position initiated slots)) k stands low opens =
       separated-low held initiated k s low opens id policy position slots
@@ -431,6 +495,9 @@ module _ (held : Held) (s : State) where
       closing_done-low held (separation_at table slot).initiated slot bit k s needs.1.1.0 (record { such = needs.1.0; lies = needs.1.1.1 }) needs.0 (slots_from table slot)
   leave-low limits table (Closing slot bit) (Failed cause at) k needs =
       closing_failed-low held (separation_at table slot).initiated slot bit k s needs.1.0 (record { such = needs.0; lies = needs.1.1 }) cause at (slots_from table slot)
+  leave-low limits table (Concluding statements start) Done k needs = concluded-low held.base k limits table statements start s needs
+  leave-low limits table (Concluding statements start) (Failed cause bit) k needs =
+      again-low held.base k table start statements.first statements.count s needs
   leave-low limits table frame (Stopped cause quantity) k needs = tt
 
   -- the bytes before the first one that is needed at a bit are given up, as far as they have come

@@ -7,6 +7,7 @@ use Rattle.dfdl_looks.specs.Looks.{Agrees}
 use Rattle.dfdl_terms.specs.Rows.{Table}
 use Rattle.dfdl_grammar.specs.declared.limits.Limits.{Limits}
 use Rattle.dfdl_grammar.specs.declared.end.End.TheVariants.{Done, Failed, Stopped}
+use Rattle.dfdl_grammar.specs.declared.end.Halt.TheVariants.{Limit, Variable}
 use Rattle.dfdl_grammar.specs.declared.mark.Mark.{Mark}
 use Rattle.dfdl_grammar.specs.States.{State}
 use Rattle.dfdl_grammar.specs.Documents.{document_from, front_at}
@@ -186,7 +187,8 @@ done_at (LookIn slot) k is = absurd (cc)
 done_at (LookBehind slot bit) k is = absurd (cc)
 done_at (Leave Done) [] is = (refl, refl)
 done_at (Leave (Failed cause bit)) [] is = absurd (cc)
-done_at (Leave (Stopped cause quantity)) [] is = absurd (cc)
+done_at (Leave (Stopped (Limit cause) quantity)) [] is = absurd (cc)
+done_at (Leave (Stopped (Variable cause) quantity)) [] is = absurd (cc)
 done_at (Leave end) (frame ∷ k) is = absurd (cc)
 
 none_open : (base at : ℕ) (marks : List Mark) → AreOpen base at [] marks → marks ≡ []
@@ -216,7 +218,7 @@ module _ (s : Session) (sound : IsSound s) (done : answer_at s.parser.focus s.pa
 module _ (old new : Session) (done : answer_at old.parser.focus old.parser.stack ≡ AllDone) (sound : IsSound old)
     (begins : new.start ≡ byte_behind old.parser.at) (is : new.sight ≡ from_byte old.sight (byte_behind old.parser.at))
     (limits : new.limits ≡ old.limits) (rows : new.terms.now ≡ old.terms.now) (focus : new.parser.focus ≡ Enter (length old.terms.now.rows - 1))
-    (stack : new.parser.stack ≡ []) (front_is : state_of new.parser ≡ front_at (byte_behind old.parser.at)) where
+    (stack : new.parser.stack ≡ []) (front_is : state_of new.parser ≡ front_at old.terms.now (byte_behind old.parser.at)) where
   abbrev start : ℕ
   start = byte_behind old.parser.at
 

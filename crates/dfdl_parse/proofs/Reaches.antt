@@ -14,7 +14,7 @@ use Rattle.dfdl_delims.specs.Longest.{Longest, Text, NoText}
 use Rattle.dfdl_terms.specs.declared.delimiters.Delimiters.{Delimiters}
 use Rattle.dfdl_terms.specs.declared.row.Primitive.{Primitive}
 use Rattle.dfdl_terms.specs.declared.row.Row.{Row}
-use Rattle.dfdl_terms.specs.declared.row.Row.TheVariants.{Leaf, Elem, Group, Skip, Align, Initiator, Terminator, Separator, Scope, Boxed, PrefixedLeaf, PrefixedBox, Repeat, Optional, Choice, Test, Hidden, Separated}
+use Rattle.dfdl_terms.specs.declared.row.Row.TheVariants.{Leaf, Elem, Group, Skip, Align, Initiator, Terminator, Separator, Scope, Boxed, PrefixedLeaf, PrefixedBox, Repeat, Optional, Choice, Statement, Concluded, Hidden, Separated}
 use Rattle.dfdl_terms.specs.Rows.{Table}
 use Rattle.dfdl_terms.specs.declared.prefix.LengthUnit.{LengthUnit}
 use Rattle.dfdl_terms.specs.declared.text.TextSize.{TextSize}
@@ -23,6 +23,7 @@ use Rattle.dfdl_looks.specs.Tallies.{Tally, needs_from, nothing, one_row, plus, 
 use Rattle.dfdl_looks.proofs.Seeing.{shown}
 use Rattle.dfdl_grammar.specs.declared.end.End.{End}
 use Rattle.dfdl_grammar.specs.declared.end.End.TheVariants.{Done, Failed, Stopped}
+use Rattle.dfdl_grammar.specs.declared.end.Halt.TheVariants.{Limit}
 use Rattle.dfdl_grammar.specs.declared.instead.Instead.{Instead}
 use Rattle.dfdl_grammar.specs.declared.instead.Instead.TheVariants.{Nothing, Nil, Empty}
 use Rattle.dfdl_grammar.specs.declared.limits.Limits.{Limits}
@@ -38,7 +39,7 @@ use Rattle.dfdl_grammar.specs.Delimiters.{lists_of, markup, opens, passed_text, 
 use Rattle.dfdl_grammar.specs.Boxes.{boxed_at}
 use Rattle.dfdl_grammar.specs.Elements.{begun, has_elements}
 use Rattle.dfdl_parse.specs.declared.frame.Frame.{Frame}
-use Rattle.dfdl_parse.specs.declared.frame.Frame.TheVariants.{Rest, Element, Box, Scope as ScopeFrame, Trial, Branch, Occurrence, Before, Content, Closing}
+use Rattle.dfdl_parse.specs.declared.frame.Frame.TheVariants.{Rest, Element, Box, Scope as ScopeFrame, Trial, Branch, Occurrence, Before, Content, Closing, Concluding}
 use Rattle.dfdl_parse.specs.declared.frame.Next.{Next}
 use Rattle.dfdl_parse.specs.declared.frame.Next.TheVariants as next
 use Rattle.dfdl_parse.specs.declared.frame.Parts.{Parts}
@@ -59,8 +60,16 @@ use Rattle.dfdl_parse.specs.Running.{Reaches}
 use Rattle.dfdl_parse.specs.Trials.{attempt, is_refused, parts_of, refused, retry, try_empty, try_nil, try_normal, two_rows}
 use Rattle.dfdl_parse.specs.Points.{try_branch, try_occurrence}
 use Rattle.dfdl_parse.specs.Testing.{landed_test, read_test, verdict_in}
+use Rattle.dfdl_parse.specs.Stating.{behind_done, make_statement, with_behind}
+use Rattle.dfdl_terms.specs.declared.statement.Statement.{Statement as AnyStatement}
+use Rattle.dfdl_terms.specs.declared.statement.Statement.TheVariants.{Pattern, Expression, Setting, Calculation}
+use Rattle.dfdl_terms.specs.declared.statement.Statements.{Statements}
+use Rattle.dfdl_paths.specs.declared.place.Start.{Start}
+use Rattle.dfdl_paths.specs.declared.place.Start.TheVariants.{At, Inside}
+use Rattle.dfdl_grammar.specs.Statements.{reconsidered_from, stated}
+use Rattle.dfdl_parse.proofs.Stated.{all-again, behind-comes, stated-comes}
 use Rattle.dfdl_parse.proofs.Resolved.{sought-comes, tested-comes}
-use Rattle.dfdl_terms.specs.declared.asserting.PatternTest.{PatternTest}
+use Rattle.dfdl_terms.specs.declared.statement.PatternTest.{PatternTest}
 use Rattle.dfdl_texts.specs.Texts.{Text as TextRead}
 use Rattle.dfdl_separators.specs.declared.verdict.Here.{Here}
 use Rattle.dfdl_separators.specs.Groups.{here_of}
@@ -78,7 +87,7 @@ use Rattle.dfdl_parse.proofs.Waits.{leave-on}
 
 -- the bit behind what is found in a leaf
 held-at : (room : Bool) (m : ℕ) (s t : State) (most : ℕ) → s.at ≤ m → t.at ≤ m
-    → (cond room (ended Done s) (ended (Stopped TextLimit most) t)).state.at ≤ m
+    → (cond room (ended Done s) (ended (Stopped (Limit TextLimit) most) t)).state.at ≤ m
 held-at true m s t most first second = first
 held-at false m s t most first second = second
 
@@ -219,9 +228,9 @@ module _ (m : ℕ) (held : Held) (base : held.base ≤ m) where
   attempt-reaches : (cost : Tally) (most id : ℕ) (parts : Parts) (instead : Instead) (k : List Frame) (s : State) → s.at ≤ 8 * m → (room : Bool)
       → Within m (cond room
       (pass cost held (Enter parts.body) (Element s.inside parts.complex ∷ k) (begun id instead s))
-      (pass cost held (Leave (Stopped Nodes most)) k s))
+      (pass cost held (Leave (Stopped (Limit Nodes) most)) k s))
   attempt-reaches cost most id parts instead k s at true = pass-reaches cost (Enter parts.body) (Element s.inside parts.complex ∷ k) (begun id instead s) at
-  attempt-reaches cost most id parts instead k s at false = pass-reaches cost (Leave (Stopped Nodes most)) k s at
+  attempt-reaches cost most id parts instead k s at false = pass-reaches cost (Leave (Stopped (Limit Nodes) most)) k s at
 
   module _ (cost : Tally) (most id : ℕ) (parts : Parts) (k : List Frame) (s : State) (at : s.at ≤ 8 * m) where
     normal-reaches : Within m (try_normal cost most held id parts k s)
@@ -361,19 +370,46 @@ module _ (m : ℕ) (held : Held) (base : held.base ≤ m) where
         → sight.base ≤ last → s.at ≤ 8 * last
         → let machine : Machine = landed_test limits (Enter id) test number reached k s in Reaches last sight machine.focus machine.state
     verdict-reaches last limits id number test sight (Told holds) k base before =
-        tested-comes (λ told t. Reaches last sight (Leave told) t) (λ t there. there) test number holds s (base, before) (base, before)
+        tested-comes (λ told t. Reaches last sight (Leave told) t) (λ t there. there) test.discriminates number holds s (base, before) (base, before)
     verdict-reaches last limits id number test sight TooFar k base before = (base, before)
     verdict-reaches last limits id number test sight Missing k base before = before
 
-    test-reaches : Anchored held s → (limits : Limits) (id number : ℕ) (test : Option PatternTest) (k : List Frame)
+    test-reaches : Anchored held s → (limits : Limits) (id number : ℕ) (test : PatternTest) (k : List Frame)
         → Within m (read_test one_row limits (Enter id) held number test k s)
-    test-reaches stands limits id number None k = pass-reaches one_row (Leave Done) k s at
-    test-reaches stands limits id number (Some test) k =
+    test-reaches stands limits id number test k =
         let sight : Held = from_byte held (anchor s) in
         let reading : Reading TextRead = ask (seen_at sight) (text_sought test.form (aligned 8 s.at) s.stop) nothing in
         let low = stands.low in
         verdict-reaches (max m (plus one_row (needs_from (anchor s) reading.tally)).far) limits id number test sight (verdict_in test.form reading.reached) k
         (omega arith) (omega arith)
+
+    -- a statement stays where it is
+    stated-at : (limits : Limits) (table : Table) (start : Start) (number : ℕ) (found : Option AnyStatement) → (stated limits table start number found s).state.at ≤ 8 * m
+    stated-at limits table start number found =
+        stated-comes (λ told t. t.at ≤ 8 * m) (λ t there. there) (λ t nodes text variables there. there) (λ t cause there. there) (λ t cause quantity there. there)
+        limits table start number found s at
+
+    concluded-at : (limits : Limits) (table : Table) (statements : Statements) (start : Start) → (behind_done limits table statements start s).state.at ≤ 8 * m
+    concluded-at limits table statements start =
+        behind-comes (λ told t. t.at ≤ 8 * m) (λ t there. there) (λ t nodes text variables there. there) (λ t cause there. there) (λ t cause quantity there. there)
+        (λ told t inside there. there) limits table statements start s at
+
+    again-at : (table : Table) (start : Start) (first count : ℕ) → (reconsidered_from table start first count s).at ≤ 8 * m
+    again-at table start first count = all-again (λ t. t.at ≤ 8 * m) (λ t there. there) (λ t variables there. there) table start first count s at
+
+    statement-reaches : Anchored held s → (limits : Limits) (table : Table) (id number : ℕ) (found : Option AnyStatement) (k : List Frame)
+        → Within m (make_statement one_row limits table (Enter id) held number found k s)
+    statement-reaches stands limits table id number None k = pass-reaches one_row (Leave Done) k s at
+    statement-reaches stands limits table id number (Some (Pattern test)) k = test-reaches stands limits id number test k
+    statement-reaches stands limits table id number (Some (Expression test)) k =
+        let o : Outcome = stated limits table (Inside s.inside) number (Some (Expression test)) s in
+        pass-reaches one_row (Leave o.end) k o.state (stated-at limits table (Inside s.inside) number (Some (Expression test)))
+    statement-reaches stands limits table id number (Some (Setting setting)) k =
+        let o : Outcome = stated limits table (Inside s.inside) number (Some (Setting setting)) s in
+        pass-reaches one_row (Leave o.end) k o.state (stated-at limits table (Inside s.inside) number (Some (Setting setting)))
+    statement-reaches stands limits table id number (Some (Calculation calculation)) k =
+        let o : Outcome = stated limits table (At s.inside) number (Some (Calculation calculation)) s in
+        pass-reaches one_row (Leave o.end) k o.state (stated-at limits table (At s.inside) number (Some (Calculation calculation)))
 
     group-reaches : (id : ℕ) (children : List ℕ) (k : List Frame) → Within m (enter_group held id children k s)
     group-reaches id [] k = pass-reaches one_row (Leave Done) k s at
@@ -383,8 +419,9 @@ module _ (m : ℕ) (held : Held) (base : held.base ≤ m) where
     enter-reaches stands limits table id None k = pass-reaches one_row (Leave Done) k s at
     enter-reaches stands limits table id (Some (Leaf prim)) k =
         leaf-reaches stands one_row limits (Enter id) table.delimiters (nil_values table.primitives s.instead) (slice_get table.primitives (read_by table.primitives s.instead prim)) k
-    enter-reaches stands limits table id (Some (Elem name simple tried body)) k =
-        element-reaches limits.nodes id (record { complex = has_elements simple; tried = tried; body = body }) k tried.are_several
+    enter-reaches stands limits table id (Some (Elem name simple tried statements body)) k =
+        element-reaches limits.nodes id (record { complex = has_elements simple; tried = tried; body = body }) (with_behind statements (At (length s.nodes)) k)
+        tried.are_several
     enter-reaches stands limits table id (Some (Group children)) k = group-reaches id children k
     enter-reaches stands limits table id (Some (Skip bits)) k = begin-reaches (s.at + bits) k (nat_le (s.at + bits) s.at) (nat_le (s.at + bits) s.stop)
     enter-reaches stands limits table id (Some (Align bits)) k = begin-reaches (aligned bits s.at) k (nat_le (aligned bits s.at) s.at) (nat_le (aligned bits s.at) s.stop)
@@ -403,7 +440,8 @@ module _ (m : ℕ) (held : Held) (base : held.base ≤ m) where
     enter-reaches stands limits table id (Some (PrefixedBox prefix body)) k =
         prefix-reaches stands limits table.delimiters id prefix.own (behind_units table.primitives prefix.unit (behind.Box body)) (slice_get table.primitives prefix.prim) k
         (λ last units after before. behind-at last table prefix.unit (behind.Box body) units k after before)
-    enter-reaches stands limits table id (Some (Test test)) k = test-reaches stands limits id test (slice_get table.tests test) k
+    enter-reaches stands limits table id (Some (Statement number)) k = statement-reaches stands limits table id number (slice_get table.statements number) k
+    enter-reaches stands limits table id (Some (Concluded statements body)) k = pass-reaches one_row (Enter body) (with_behind statements (Inside s.inside) k) s at
     enter-reaches stands limits table id (Some (Hidden body)) k = pass-reaches one_row (Enter body) k s at
     enter-reaches stands limits table id (Some (Separated policy position initiated slots)) k =
         separated-has (Within m) UpTo held initiated k (λ here t. slot-at initiated here t) (slot-ways one_row k) id policy position slots s at
@@ -496,6 +534,12 @@ module _ (m : ℕ) (held : Held) (base : held.base ≤ m) where
         closing-reaches (separation_at table slot).initiated k slot bit (slots_from table slot) true Done goes.0
     leave-reaches limits table (Closing slot bit) (Failed cause told) k goes =
         closing-reaches (separation_at table slot).initiated k slot bit (slots_from table slot) false (Failed cause told) goes.0
+    leave-reaches limits table (Concluding statements start) Done k goes =
+        let o : Outcome = behind_done limits table statements start s in
+        pass-reaches nothing (Leave o.end) k o.state (concluded-at limits table statements start)
+    leave-reaches limits table (Concluding statements start) (Failed cause bit) k goes =
+        pass-reaches nothing (Leave (Failed cause bit)) k (reconsidered_from table start statements.first statements.count s)
+        (again-at table start statements.first statements.count)
     leave-reaches limits table frame (Stopped cause quantity) k goes = (omega arith, omega arith)
 
 -- a search, by where the text that it finds ends
@@ -515,7 +559,7 @@ module _ (m : ℕ) (held : Held) (s : State) (at : s.at ≤ 8 * m) where
   found-reaches window place last focus what sight k (Told NoText) base before ends waits =
       sought-comes (λ told t. Reaches last sight (Leave told) t) (λ t there. there) what (ended (Failed (cause_of what) s.at) s) (base, before)
   found-reaches window place last focus what sight k TooFar base before ends waits =
-      sought-comes (λ told t. Reaches last sight (Leave told) t) (λ t there. there) what (ended (Stopped Window window) s) (base, before)
+      sought-comes (λ told t. Reaches last sight (Leave told) t) (λ t there. there) what (ended (Stopped (Limit Window) window) s) (base, before)
   found-reaches window place last focus what sight k Missing base before ends waits = waits refl
 
   pub search-reaches : Anchored held (record s { at = aligned 8 s.at }) → (limits : Limits) (delimiters : List Delimiters) (what : Sought) (k : List Frame)

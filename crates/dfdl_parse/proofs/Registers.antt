@@ -1,5 +1,5 @@
 -- A step names no lists but those of the tables.
-use Rattle.std.proofs.Common.{◌≡◌, ℕ, zero, suc, ◌+◌, ◌-◌, ◌*◌, ◌/◌, ◌<◌, min, ◌&&◌, nat_eq, nat_le, nat_lt, refl, List, [], ◌∷◌, length, map, Bool, true, false, cond, Option, Some, None, All, sym, subst, arith, replicate}
+use Rattle.std.proofs.Common.{◌≡◌, ℕ, zero, suc, ◌+◌, ◌-◌, ◌*◌, ◌/◌, ◌<◌, min, ◌&&◌, nat_eq, nat_le, nat_lt, refl, List, [], ◌∷◌, length, map, Bool, true, false, cond, Option, Some, None, All, sym, ◌∙◌, subst, arith, replicate}
 use Rattle.std.specs.Prelude.{slice_get}
 use Rattle.std.proofs.lemmas.List.Elements.{All-append, All-take}
 use Rattle.std.proofs.lemmas.Option.{get_or_from_slice_get, slice_get_within}
@@ -15,13 +15,14 @@ use Rattle.dfdl_delims.specs.Longest.{Longest, Text, NoText}
 use Rattle.dfdl_terms.specs.declared.delimiters.Delimiters.{Delimiters}
 use Rattle.dfdl_terms.specs.declared.row.Primitive.{Primitive}
 use Rattle.dfdl_terms.specs.declared.row.Row.{Row}
-use Rattle.dfdl_terms.specs.declared.row.Row.TheVariants.{Leaf, Elem, Group, Skip, Align, Initiator, Terminator, Separator, Scope, Boxed, PrefixedLeaf, PrefixedBox, Repeat, Optional, Choice, Test, Hidden, Separated}
+use Rattle.dfdl_terms.specs.declared.row.Row.TheVariants.{Leaf, Elem, Group, Skip, Align, Initiator, Terminator, Separator, Scope, Boxed, PrefixedLeaf, PrefixedBox, Repeat, Optional, Choice, Statement, Concluded, Hidden, Separated}
 use Rattle.dfdl_terms.specs.declared.text.TextSize.{TextSize}
 use Rattle.dfdl_terms.specs.Rows.{IsWithin, NamesWithin, Table, named_by}
 use Rattle.dfdl_looks.specs.Asks.{Reached, Told, TooFar, Missing, ask}
 use Rattle.dfdl_looks.specs.Tallies.{Tally, needs_from, nothing, one_row, saw_byte}
 use Rattle.dfdl_grammar.specs.declared.end.End.{End}
 use Rattle.dfdl_grammar.specs.declared.end.End.TheVariants.{Done, Failed, Stopped}
+use Rattle.dfdl_grammar.specs.declared.end.Halt.TheVariants.{Limit}
 use Rattle.dfdl_grammar.specs.declared.instead.Instead.{Instead}
 use Rattle.dfdl_grammar.specs.declared.instead.Instead.TheVariants.{Nothing, Nil, Empty}
 use Rattle.dfdl_grammar.specs.declared.limits.Limits.{Limits}
@@ -37,7 +38,7 @@ use Rattle.dfdl_grammar.specs.Boxes.{boxed_at}
 use Rattle.dfdl_grammar.specs.Elements.{begun, has_elements}
 use Rattle.dfdl_grammar.specs.Prefixes.{bits_of_units, resized, size_of, units_told}
 use Rattle.dfdl_parse.specs.declared.frame.Frame.{Frame}
-use Rattle.dfdl_parse.specs.declared.frame.Frame.TheVariants.{Rest, Element, Box, Scope as ScopeFrame, Trial, Branch, Occurrence, Before, Content, Closing}
+use Rattle.dfdl_parse.specs.declared.frame.Frame.TheVariants.{Rest, Element, Box, Scope as ScopeFrame, Trial, Branch, Occurrence, Before, Content, Closing, Concluding}
 use Rattle.dfdl_parse.specs.declared.frame.Outside.{Outside}
 use Rattle.dfdl_parse.specs.declared.frame.Next.{Next}
 use Rattle.dfdl_parse.specs.declared.frame.Next.TheVariants as next
@@ -65,8 +66,16 @@ use Rattle.dfdl_parse.specs.Shown.{HasSameLimits, limits_of, state_of}
 use Rattle.dfdl_parse.specs.Steps.{Moved}
 use Rattle.dfdl_parse.specs.Points.{try_branch, try_occurrence}
 use Rattle.dfdl_parse.specs.Testing.{landed_test, read_test, verdict_in}
+use Rattle.dfdl_parse.specs.Stating.{behind_done, make_statement, with_behind}
+use Rattle.dfdl_terms.specs.declared.statement.Statement.{Statement as AnyStatement}
+use Rattle.dfdl_terms.specs.declared.statement.Statement.TheVariants.{Pattern, Expression, Setting, Calculation}
+use Rattle.dfdl_terms.specs.declared.statement.Statements.{Statements}
+use Rattle.dfdl_paths.specs.declared.place.Start.{Start}
+use Rattle.dfdl_paths.specs.declared.place.Start.TheVariants.{At, Inside}
+use Rattle.dfdl_grammar.specs.Statements.{reconsidered_from, stated}
+use Rattle.dfdl_parse.proofs.Stated.{all-again, behind-comes, stated-comes}
 use Rattle.dfdl_parse.proofs.Resolved.{sought-comes, tested-comes}
-use Rattle.dfdl_terms.specs.declared.asserting.PatternTest.{PatternTest}
+use Rattle.dfdl_terms.specs.declared.statement.PatternTest.{PatternTest}
 use Rattle.dfdl_report.specs.declared.cause.LimitCause.TheVariants.{Window}
 use Rattle.dfdl_parse.specs.Trials.{attempt, parts_of, refused, retry, trial_done, try_empty, try_nil, try_normal, two_rows}
 
@@ -87,10 +96,10 @@ module _ (count : ℕ) where
   left_at end k s lists = record { sought = tt; open_lists = lists }
 
   hold-names : (room : Bool) (k : List Frame) (s t : State) (most : ℕ) → All IsOne s.lists → All IsOne t.lists
-      → (let o : Outcome = cond room (ended Done s) (ended (Stopped TextLimit most) t) in
+      → (let o : Outcome = cond room (ended Done s) (ended (Stopped (Limit TextLimit) most) t) in
       ListsWithin count (record { focus = Leave o.end; stack = k; state = o.state }))
   hold-names true k s t most new lists = left_at Done k s new
-  hold-names false k s t most new lists = left_at (Stopped TextLimit most) k t lists
+  hold-names false k s t most new lists = left_at (Stopped (Limit TextLimit) most) k t lists
 
   landed-names : (limits : Limits) (focus : Focus) (first : ℕ) (reached : Reached Find) (k : List Frame) (s : State) → SeeksWithin count focus → All IsOne s.lists
       → ListsWithin count (landed limits focus first reached k s)
@@ -177,7 +186,7 @@ module _ (count : ℕ) where
   attempt-names : (cost : Tally) (most : ℕ) (held : Held) (id : ℕ) (parts : Parts) (instead : Instead) (k : List Frame) (s : State) → All IsOne s.lists → (room : Bool)
       → Names (cond room
       (pass cost held (Enter parts.body) (Element s.inside parts.complex ∷ k) (begun id instead s))
-      (pass cost held (Leave (Stopped Nodes most)) k s))
+      (pass cost held (Leave (Stopped (Limit Nodes) most)) k s))
   attempt-names cost most held id parts instead k s lists true = record { sought = tt; open_lists = lists }
   attempt-names cost most held id parts instead k s lists false = left_at _ k s lists
 
@@ -311,23 +320,48 @@ module _ (count : ℕ) where
   text-names window what (Told NoText) k s less lists =
       sought-comes (Leaves k) (λ t within. left_at Done k (resolved t) within.open_lists) what (ended (Failed (cause_of what) s.at) s) (left_at _ k s lists)
   text-names window what TooFar k s less lists =
-      sought-comes (Leaves k) (λ t within. left_at Done k (resolved t) within.open_lists) what (ended (Stopped Window window) s) (left_at _ k s lists)
+      sought-comes (Leaves k) (λ t within. left_at Done k (resolved t) within.open_lists) what (ended (Stopped (Limit Window) window) s) (left_at _ k s lists)
   text-names window what Missing k s less lists = record { sought = less; open_lists = lists }
 
   -- a test
   verdict-names : (limits : Limits) (id number : ℕ) (test : PatternTest) (reached : Reached Bool) (k : List Frame) (s : State) → All IsOne s.lists
       → ListsWithin count (landed_test limits (Enter id) test number reached k s)
   verdict-names limits id number test (Told holds) k s lists =
-      tested-comes (Leaves k) (λ t within. left_at Done k (resolved t) within.open_lists) test number holds s (left_at Done k s lists) (left_at _ k s lists)
+      tested-comes (Leaves k) (λ t within. left_at Done k (resolved t) within.open_lists) test.discriminates number holds s (left_at Done k s lists) (left_at _ k s lists)
   verdict-names limits id number test TooFar k s lists = left_at _ k s lists
   verdict-names limits id number test Missing k s lists = record { sought = tt; open_lists = lists }
 
-  test-names : (limits : Limits) (held : Held) (id number : ℕ) (test : Option PatternTest) (k : List Frame) (s : State) → All IsOne s.lists
+  test-names : (limits : Limits) (held : Held) (id number : ℕ) (test : PatternTest) (k : List Frame) (s : State) → All IsOne s.lists
       → Names (read_test one_row limits (Enter id) held number test k s)
-  test-names limits held id number None k s lists = left_at Done k s lists
-  test-names limits held id number (Some test) k s lists =
+  test-names limits held id number test k s lists =
       verdict-names limits id number test
       (verdict_in test.form (ask (seen_at (from_byte held (anchor s))) (text_sought test.form (aligned 8 s.at) s.stop) nothing).reached) k s lists
+
+  -- a statement opens and closes no list
+  stated-lists : (limits : Limits) (table : Table) (start : Start) (number : ℕ) (found : Option AnyStatement) (s : State) → All IsOne s.lists
+      → All IsOne (stated limits table start number found s).state.lists
+  stated-lists =
+      stated-comes (λ end t. All IsOne t.lists) (λ t there. there) (λ t nodes text variables there. there) (λ t cause there. there) (λ t cause quantity there. there)
+
+  concluded-lists : (limits : Limits) (table : Table) (statements : Statements) (start : Start) (s : State) → All IsOne s.lists
+      → All IsOne (behind_done limits table statements start s).state.lists
+  concluded-lists =
+      behind-comes (λ end t. All IsOne t.lists) (λ t there. there) (λ t nodes text variables there. there) (λ t cause there. there) (λ t cause quantity there. there)
+      (λ end t inside there. there)
+
+  again-lists : (table : Table) (start : Start) (first most : ℕ) (s : State) → All IsOne s.lists → All IsOne (reconsidered_from table start first most s).lists
+  again-lists = all-again (λ t. All IsOne t.lists) (λ t there. there) (λ t variables there. there)
+
+  statement-names : (limits : Limits) (table : Table) (held : Held) (id number : ℕ) (found : Option AnyStatement) (k : List Frame) (s : State) → All IsOne s.lists
+      → Names (make_statement one_row limits table (Enter id) held number found k s)
+  statement-names limits table held id number None k s lists = left_at Done k s lists
+  statement-names limits table held id number (Some (Pattern test)) k s lists = test-names limits held id number test k s lists
+  statement-names limits table held id number (Some (Expression test)) k s lists =
+      left_at _ k _ (stated-lists limits table (Inside s.inside) number (Some (Expression test)) s lists)
+  statement-names limits table held id number (Some (Setting setting)) k s lists =
+      left_at _ k _ (stated-lists limits table (Inside s.inside) number (Some (Setting setting)) s lists)
+  statement-names limits table held id number (Some (Calculation calculation)) k s lists =
+      left_at _ k _ (stated-lists limits table (At s.inside) number (Some (Calculation calculation)) s lists)
 
   -- what has failed at a point that is resolved, or not
   failed-names : (held : Held) (end : End) (k : List Frame) (s : State) (other : Move) → All IsOne s.lists → Names other → (settled : Bool)
@@ -421,6 +455,9 @@ module _ (count : ℕ) where
       closing-names held (separation_at table slot).initiated k slot s lists bit (slots_from table slot) true Done
   leave-names limits table held (Closing slot bit) (Failed cause at) k s lists =
       closing-names held (separation_at table slot).initiated k slot s lists bit (slots_from table slot) false (Failed cause at)
+  leave-names limits table held (Concluding statements start) Done k s lists = left_at _ k _ (concluded-lists limits table statements start s lists)
+  leave-names limits table held (Concluding statements start) (Failed cause bit) k s lists =
+      left_at _ k _ (again-lists table start statements.first statements.count s lists)
   leave-names limits table held frame (Stopped cause quantity) k s lists = left_at _ k s lists
 
   -- a question of a slot
@@ -466,8 +503,9 @@ module _ (limits : Limits) (table : Table) (held : Held) (named : All (NamesWith
   enter-names id (Some (Leaf prim)) k s is lists =
       leaf-names count one_row limits (Enter id) held table.delimiters (nil_values table.primitives s.instead)
       (slice_get table.primitives (read_by table.primitives s.instead prim)) k s tt lists
-  enter-names id (Some (Elem name simple tried body)) k s is lists =
-      element-names count limits.nodes held id (record { complex = has_elements simple; tried = tried; body = body }) k s lists tried.are_several
+  enter-names id (Some (Elem name simple tried statements body)) k s is lists =
+      element-names count limits.nodes held id (record { complex = has_elements simple; tried = tried; body = body })
+      (with_behind statements (At (length s.nodes)) k) s lists tried.are_several
   enter-names id (Some (Group children)) k s is lists = group-names count held id children k s lists
   enter-names id (Some (Skip bits)) k s is lists = begin-names count held (s.at + bits) k s lists (nat_le (s.at + bits) s.at) (nat_le (s.at + bits) s.stop)
   enter-names id (Some (Align bits)) k s is lists =
@@ -497,7 +535,8 @@ module _ (limits : Limits) (table : Table) (held : Held) (named : All (NamesWith
       prefix-names count limits table.delimiters id prefix.own (behind_units table.primitives prefix.unit (behind.Box body)) k
       (λ units after still. box-names count (bits_of_units prefix.unit units) body k after still (nat_le (after.at + bits_of_units prefix.unit units) after.stop))
       held (slice_get table.primitives prefix.prim) s lists
-  enter-names id (Some (Test test)) k s is lists = test-names count limits held id test (slice_get table.tests test) k s lists
+  enter-names id (Some (Statement number)) k s is lists = statement-names count limits table held id number (slice_get table.statements number) k s lists
+  enter-names id (Some (Concluded statements body)) k s is lists = record { sought = tt; open_lists = lists }
   enter-names id (Some (Hidden body)) k s is lists = record { sought = tt; open_lists = lists }
   enter-names id (Some (Separated policy position initiated slots)) k s is lists =
       separated-has (Names count) (HasLists count) held initiated k (slot-lists count initiated) (slot-ways count one_row held k) id policy position slots s lists
@@ -529,7 +568,8 @@ pub still_registered : (table : Table) → All (NamesWithin (named_by table)) ta
     → HasSameLimits old new → Moved (step (limits_of old before) table before old.focus old.stack (state_of old)) waited far new after looks
     → IsRegistered table old → IsRegistered table new
 still_registered table named old new before after waited far looks most moved is = record {
-  holds = subst (λ r. Holds r (map opened table.delimiters)) (sym most.1.1) is.holds;
+  holds = subst (λ r. Holds r (map opened table.delimiters)) (sym most.1.1.0) is.holds;
   within = subst (λ (m : Machine). ListsWithin (length table.delimiters) m) (sym moved.machine)
       (step-names (limits_of old before) table before named old.focus old.stack (state_of old) is.within);
+  marked = most.1.1.1 ∙ is.marked;
 }

@@ -1,6 +1,5 @@
 -- What holds of a state and of it with a resolved point holds behind a search and behind a test.
 use Rattle.std.proofs.Common.{◌≡◌, ℕ, refl, Bool, true, false, cond}
-use Rattle.dfdl_terms.specs.declared.asserting.PatternTest.{PatternTest}
 use Rattle.dfdl_looks.specs.Tallies.{Tally, nothing}
 use Rattle.dfdl_grammar.specs.declared.end.End.{End}
 use Rattle.dfdl_grammar.specs.declared.end.End.TheVariants.{Done, Failed, Stopped}
@@ -31,10 +30,10 @@ module _ (P : End → State → Type 0) (resolves : (s : State) → P Done s →
   sought-comes Separator o holds = holds
 
   -- behind a test
-  pub tested-comes : (test : PatternTest) (number : ℕ) (holds : Bool) (s : State) → P Done s → P (Failed (false_test test number) s.at) s
-      → P (tested test number holds s).end (tested test number holds s).state
-  tested-comes test number true s done failed = either-comes s test.discriminates done
-  tested-comes test number false s done failed = failed
+  pub tested-comes : (discriminates : Bool) (number : ℕ) (holds : Bool) (s : State) → P Done s → P (Failed (false_test discriminates number) s.at) s
+      → P (tested discriminates number holds s).end (tested discriminates number holds s).state
+  tested-comes discriminates number true s done failed = either-comes s discriminates done
+  tested-comes discriminates number false s done failed = failed
 
 -- a search and a test cost nothing more
 initiator-nothing : (end : End) (s : State) → (found_initiator end (ended end s)).tally ≡ nothing
@@ -47,9 +46,9 @@ sought-nothing (Initiator list) end s = initiator-nothing end s
 sought-nothing (Terminator list separators) end s = refl
 sought-nothing Separator end s = refl
 
-pub tested-nothing : (test : PatternTest) (number : ℕ) (holds : Bool) (s : State) → (tested test number holds s).tally ≡ nothing
-tested-nothing test number true s = refl
-tested-nothing test number false s = refl
+pub tested-nothing : (discriminates : Bool) (number : ℕ) (holds : Bool) (s : State) → (tested discriminates number holds s).tally ≡ nothing
+tested-nothing discriminates number true s = refl
+tested-nothing discriminates number false s = refl
 
 -- what was spent in a search was spent before what it resolves
 initiator-spend : (end : End) (t : Tally) (o : Outcome) → found_initiator end (spend t o) ≡ spend t (found_initiator end o)

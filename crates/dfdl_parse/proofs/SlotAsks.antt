@@ -13,6 +13,7 @@ use Rattle.dfdl_looks.proofs.Sequels.{and_then-from}
 use Rattle.dfdl_looks.proofs.Stretched.{look_at-from}
 use Rattle.dfdl_looks.proofs.Waiting.{kept, missed, waits_while, counted}
 use Rattle.dfdl_grammar.specs.declared.end.End.TheVariants.{Stopped}
+use Rattle.dfdl_grammar.specs.declared.end.Halt.TheVariants.{Limit}
 use Rattle.dfdl_grammar.specs.States.{Input, State, anchor}
 use Rattle.dfdl_grammar.specs.Outcomes.{Outcome, ended, spend}
 use Rattle.dfdl_grammar.specs.Delimiters.{sought_among}
@@ -95,7 +96,7 @@ module _ (held : Held) (s : State) (question : Ask Bool) (stands : Anchored held
           → (told_move input.limits focus sight cost moves r k s).waits ≡ false
           → Does input table (finish input table k (spend cost (told input.limits next r s))) (told_move input.limits focus sight cost moves r k s)
       told-ahead focus moves each (Told answer) going = each answer
-      told-ahead focus moves each TooFar going = finish-spend input table k cost (ended (Stopped Window input.limits.window) s)
+      told-ahead focus moves each TooFar going = finish-spend input table k cost (ended (Stopped (Limit Window) input.limits.window) s)
       told-ahead focus moves each Missing going = absurd (cc)
 
       pub peek-ahead : (focus : Focus) (moves : Bool → Move)

@@ -3,7 +3,6 @@ use Rattle.std.proofs.Common.{◌≡◌, ℕ, zero, suc, ◌+◌, ◌-◌, ◌<�
 use Rattle.std.proofs.lemmas.Bool.Decides.{nat_tests}
 use Rattle.std.specs.Prelude.{slice_get}
 use Rattle.dfdl_bits.specs.Window.{Held, from_byte, seen_at}
-use Rattle.dfdl_report.specs.declared.cause.LimitCause.{LimitCause}
 use Rattle.dfdl_report.specs.declared.cause.ParseCause.{ParseCause}
 use Rattle.dfdl_report.specs.declared.cause.ParseCause.TheVariants.{EmptyTrailingSlot, SeparatorMissing}
 use Rattle.dfdl_separators.specs.declared.moves.SlotMove.{SlotMove}
@@ -27,6 +26,7 @@ use Rattle.dfdl_looks.specs.Asks.{Ask, ask}
 use Rattle.dfdl_looks.specs.Tallies.{Tally, needs_from, nothing, one_row, plus}
 use Rattle.dfdl_grammar.specs.declared.end.End.{End}
 use Rattle.dfdl_grammar.specs.declared.end.End.TheVariants.{Done, Failed, Stopped}
+use Rattle.dfdl_grammar.specs.declared.end.Halt.{Halt}
 use Rattle.dfdl_grammar.specs.States.{Input, State, anchor}
 use Rattle.dfdl_grammar.specs.Marks.{is_settled, marked, pointed}
 use Rattle.dfdl_grammar.specs.Outcomes.{Outcome, ended, spend}
@@ -403,35 +403,35 @@ module _ (input : Input) (table : Table) where
         ∙ settled-ahead slot own slots is below nothing held bit false (Failed cause at) k s
 
     -- a limit is one of the whole
-    before-stopped : (cause : LimitCause) (quantity : ℕ) (slots : List Slot)
+    before-stopped : (cause : Halt) (quantity : ℕ) (slots : List Slot)
         → before_slot (sequence_at slot) slot slots (ended (Stopped cause quantity) s) ≡ ended (Stopped cause quantity) s
     before-stopped cause quantity [] = refl
     before-stopped cause quantity (own ∷ slots) = refl
 
-    content-stopped : (bit : ℕ) (empty : Bool) (cause : LimitCause) (quantity : ℕ) (slots : List Slot)
+    content-stopped : (bit : ℕ) (empty : Bool) (cause : Halt) (quantity : ℕ) (slots : List Slot)
         → content_slot (sequence_at slot) slot bit empty slots (ended (Stopped cause quantity) s) ≡ ended (Stopped cause quantity) s
     content-stopped bit empty cause quantity [] = refl
     content-stopped bit empty cause quantity (own ∷ slots) = refl
 
-    closing-stopped : (bit : ℕ) (cause : LimitCause) (quantity : ℕ) (slots : List Slot)
+    closing-stopped : (bit : ℕ) (cause : Halt) (quantity : ℕ) (slots : List Slot)
         → closing_slot (sequence_at slot) slot bit slots (ended (Stopped cause quantity) s) ≡ ended (Stopped cause quantity) s
     closing-stopped bit cause quantity [] = refl
     closing-stopped bit cause quantity (own ∷ slots) = refl
 
-    pub before_stopped-ahead : (cause : LimitCause) (quantity : ℕ)
+    pub before_stopped-ahead : (cause : Halt) (quantity : ℕ)
         → Does input table (finish input table k (before_slot (sequence_at slot) slot (slots_from table slot) (ended (Stopped cause quantity) s)))
         (pass nothing held (Leave (Stopped cause quantity)) k s)
     before_stopped-ahead cause quantity =
         ap (finish input table k) (before-stopped cause quantity (slots_from table slot)) ∙ after_nothing input table k (ended (Stopped cause quantity) s)
 
-    pub content_stopped-ahead : (bit : ℕ) (empty : Bool) (cause : LimitCause) (quantity : ℕ)
+    pub content_stopped-ahead : (bit : ℕ) (empty : Bool) (cause : Halt) (quantity : ℕ)
         → Does input table (finish input table k (content_slot (sequence_at slot) slot bit empty (slots_from table slot) (ended (Stopped cause quantity) s)))
         (pass nothing held (Leave (Stopped cause quantity)) k s)
     content_stopped-ahead bit empty cause quantity =
         ap (finish input table k) (content-stopped bit empty cause quantity (slots_from table slot))
         ∙ after_nothing input table k (ended (Stopped cause quantity) s)
 
-    pub closing_stopped-ahead : (bit : ℕ) (cause : LimitCause) (quantity : ℕ)
+    pub closing_stopped-ahead : (bit : ℕ) (cause : Halt) (quantity : ℕ)
         → Does input table (finish input table k (closing_slot (sequence_at slot) slot bit (slots_from table slot) (ended (Stopped cause quantity) s)))
         (pass nothing held (Leave (Stopped cause quantity)) k s)
     closing_stopped-ahead bit cause quantity =

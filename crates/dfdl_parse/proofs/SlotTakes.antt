@@ -83,7 +83,7 @@ becomes-then old mid new m next first second =
     record {
       machine = subst (λ (x : Machine). shown new ≡ next x.stack x.state) first.machine second.machine;
       far = second.far ∙ first.far;
-      limits = (two.0 ∙ one.0, (two.1.0 ∙ one.1.0, two.1.1 ∙ one.1.1));
+      limits = (two.0 ∙ one.0, (two.1.0 ∙ one.1.0, (two.1.1.0 ∙ one.1.1.0, two.1.1.1 ∙ one.1.1.1)));
     }
 
 -- a question is asked, over the window that the clause speaks of

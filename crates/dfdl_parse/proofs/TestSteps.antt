@@ -1,7 +1,7 @@
 -- The step of a test does a part of what is ahead.
-use Rattle.std.proofs.Common.{◌≡◌, ℕ, ◌+◌, ◌/◌, ◌≤◌, min, refl, List, true, false, Option, Some, None, ap, sym, ◌∙◌, arith}
+use Rattle.std.proofs.Common.{◌≡◌, ℕ, ◌+◌, ◌/◌, ◌≤◌, min, refl, List, true, false, ap, sym, ◌∙◌, arith}
 use Rattle.dfdl_bits.specs.Window.{Held, from_byte, seen_at}
-use Rattle.dfdl_terms.specs.declared.asserting.PatternTest.{PatternTest}
+use Rattle.dfdl_terms.specs.declared.statement.PatternTest.{PatternTest}
 use Rattle.dfdl_terms.specs.declared.text.PatternForm.{PatternForm}
 use Rattle.dfdl_terms.specs.Rows.{Table}
 use Rattle.dfdl_texts.specs.Texts.{Text}
@@ -11,13 +11,12 @@ use Rattle.dfdl_looks.specs.Looks.{seen_in}
 use Rattle.dfdl_looks.specs.Asks.{Ask, AsksFrom, Reached, Told, TooFar, Missing, Reading, ask}
 use Rattle.dfdl_looks.specs.Tallies.{Tally, needs_from, nothing, one_row, plus}
 use Rattle.dfdl_looks.proofs.Resumed.{asked}
-use Rattle.dfdl_grammar.specs.declared.end.End.TheVariants.{Done}
 use Rattle.dfdl_grammar.specs.Framing.{aligned}
 use Rattle.dfdl_grammar.specs.Leaves.{text_sought}
-use Rattle.dfdl_grammar.specs.Outcomes.{Outcome, ended, spend}
+use Rattle.dfdl_grammar.specs.Outcomes.{Outcome, spend}
 use Rattle.dfdl_grammar.specs.Patterns.{most_sought}
 use Rattle.dfdl_grammar.specs.States.{Input, State, anchor}
-use Rattle.dfdl_grammar.specs.Tests.{characters_in, land_test, matches, test_of}
+use Rattle.dfdl_grammar.specs.Tests.{characters_in, land_test, matches, test}
 use Rattle.dfdl_grammar.proofs.Spending.{spend-spend}
 use Rattle.dfdl_parse.specs.declared.frame.Frame.{Frame}
 use Rattle.dfdl_parse.specs.declared.frame.Focus.{Focus}
@@ -47,30 +46,29 @@ unknown form TooFar is = absurd (cc)
 unknown form Missing is = refl
 
 module _ (input : Input) (table : Table) where
-  tested-ahead : (focus : Focus) (test : PatternTest) (number : ℕ) (reached : Reached Text) (k : List Frame) (s : State) → is_unknown (verdict_in test.form reached) ≡ false
-      → finish input table k (land_test input.limits test number reached s)
-      ≡ ahead input table (landed_test input.limits focus test number (verdict_in test.form reached) k s)
-  tested-ahead focus test number (Told text) k s is =
-      let o : Outcome = land_test input.limits test number (Told text) s in
+  tested-ahead : (focus : Focus) (pattern : PatternTest) (number : ℕ) (reached : Reached Text) (k : List Frame) (s : State) → is_unknown (verdict_in pattern.form reached) ≡ false
+      → finish input table k (land_test input.limits pattern number reached s)
+      ≡ ahead input table (landed_test input.limits focus pattern number (verdict_in pattern.form reached) k s)
+  tested-ahead focus pattern number (Told text) k s is =
+      let o : Outcome = land_test input.limits pattern number (Told text) s in
       ap (λ (t : Tally). finish input table k (record { end = o.end; state = o.state; tally = t }))
-      (tested-nothing test number (matches test.form (characters_in text)) s)
-  tested-ahead focus test number TooFar k s is = refl
-  tested-ahead focus test number Missing k s is = absurd (cc)
+      (tested-nothing pattern.discriminates number (matches pattern.form (characters_in text)) s)
+  tested-ahead focus pattern number TooFar k s is = refl
+  tested-ahead focus pattern number Missing k s is = absurd (cc)
 
-  pub test-ahead : (focus : Focus) (held : Held) (number : ℕ) (test : Option PatternTest) (k : List Frame) (s : State) → Sees held input s
-      → (read_test one_row input.limits focus held number test k s).waits ≡ false
-      → Does input table (finish input table k (spend one_row (test_of input number test s))) (read_test one_row input.limits focus held number test k s)
-  test-ahead focus held number None k s sees going = finish-spend input table k one_row (ended Done s)
-  test-ahead focus held number (Some test) k s sees going =
+  pub test-ahead : (focus : Focus) (held : Held) (number : ℕ) (pattern : PatternTest) (k : List Frame) (s : State) → Sees held input s
+      → (read_test one_row input.limits focus held number pattern k s).waits ≡ false
+      → Does input table (finish input table k (spend one_row (test input number pattern s))) (read_test one_row input.limits focus held number pattern k s)
+  test-ahead focus held number pattern k s sees going =
       let low : ℕ = anchor s in
-      let asks : Ask Text = text_sought test.form (aligned 8 s.at) s.stop in
+      let asks : Ask Text = text_sought pattern.form (aligned 8 s.at) s.stop in
       let here : Reading Text = ask (seen_at (from_byte held low)) asks nothing in
       let same : here ≡ ask (seen_in input.bytes input.limits.window low) asks nothing =
       asked (from_byte held low) input.bytes (agrees_from held input.bytes low sees.stands.base sees.stands.end sees.agrees)
-      asks (test-from low test.form s.at s.stop sees.stands.low) nothing (known test.form here.reached going)
+      asks (test-from low pattern.form s.at s.stop sees.stands.low) nothing (known pattern.form here.reached going)
       ∙ ap (λ (size : ℕ). ask (seen_in input.bytes size low) asks nothing) sees.size in
       let spent : Tally = needs_from low here.tally in
-      ap (λ (r : Reading Text). finish input table k (spend one_row (spend (needs_from low r.tally) (land_test input.limits test number r.reached s)))) (sym same)
-      ∙ ap (finish input table k) (spend-spend one_row spent (land_test input.limits test number here.reached s))
-      ∙ finish-spend input table k (plus one_row spent) (land_test input.limits test number here.reached s)
-      ∙ ap (spend (plus one_row spent)) (tested-ahead focus test number here.reached k s going)
+      ap (λ (r : Reading Text). finish input table k (spend one_row (spend (needs_from low r.tally) (land_test input.limits pattern number r.reached s)))) (sym same)
+      ∙ ap (finish input table k) (spend-spend one_row spent (land_test input.limits pattern number here.reached s))
+      ∙ finish-spend input table k (plus one_row spent) (land_test input.limits pattern number here.reached s)
+      ∙ ap (spend (plus one_row spent)) (tested-ahead focus pattern number here.reached k s going)

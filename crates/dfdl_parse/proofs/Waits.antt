@@ -10,7 +10,7 @@ use Rattle.dfdl_value.specs.declared.value.Value.{Value}
 use Rattle.dfdl_terms.specs.declared.row.Primitive.{Primitive}
 use Rattle.dfdl_delims.specs.Longest.{Longest}
 use Rattle.dfdl_terms.specs.declared.row.Row.{Row}
-use Rattle.dfdl_terms.specs.declared.row.Row.TheVariants.{Leaf, Elem, Group, Skip, Align, Initiator, Terminator, Separator, Scope, Boxed, PrefixedLeaf, PrefixedBox, Repeat, Optional, Choice, Test, Hidden, Separated}
+use Rattle.dfdl_terms.specs.declared.row.Row.TheVariants.{Leaf, Elem, Group, Skip, Align, Initiator, Terminator, Separator, Scope, Boxed, PrefixedLeaf, PrefixedBox, Repeat, Optional, Choice, Statement, Concluded, Hidden, Separated}
 use Rattle.dfdl_terms.specs.Rows.{Table}
 use Rattle.dfdl_looks.specs.Looks.{seen_in}
 use Rattle.dfdl_looks.specs.Asks.{Ask, AsksFrom, Reached, Told, TooFar, Missing, Reading, ask}
@@ -18,6 +18,7 @@ use Rattle.dfdl_looks.specs.Tallies.{Tally, beside_first, first_of, needs_from, 
 use Rattle.dfdl_looks.proofs.Waiting.{missed, waits_while, counted}
 use Rattle.dfdl_grammar.specs.declared.end.End.{End}
 use Rattle.dfdl_grammar.specs.declared.end.End.TheVariants.{Done, Failed, Stopped}
+use Rattle.dfdl_grammar.specs.declared.end.Halt.TheVariants.{Limit}
 use Rattle.dfdl_grammar.specs.declared.limits.Limits.{Limits}
 use Rattle.dfdl_grammar.specs.States.{Input, State, anchor, anchor_at}
 use Rattle.dfdl_grammar.specs.Marks.{back, closed, marked, pointed}
@@ -35,7 +36,7 @@ use Rattle.dfdl_grammar.specs.Elements.{begun, has_elements}
 use Rattle.dfdl_grammar.specs.Rows.{below, meaning, row}
 use Rattle.dfdl_grammar.proofs.Spending.{spend-spend, spend-nothing}
 use Rattle.dfdl_parse.specs.declared.frame.Frame.{Frame}
-use Rattle.dfdl_parse.specs.declared.frame.Frame.TheVariants.{Rest, Element, Box, Scope as ScopeFrame, Trial, Branch, Occurrence, Before, Content, Closing}
+use Rattle.dfdl_parse.specs.declared.frame.Frame.TheVariants.{Rest, Element, Box, Scope as ScopeFrame, Trial, Branch, Occurrence, Before, Content, Closing, Concluding}
 use Rattle.dfdl_parse.specs.declared.frame.Outside.{Outside}
 use Rattle.dfdl_parse.specs.declared.frame.Next.{Next}
 use Rattle.dfdl_parse.specs.declared.frame.Next.TheVariants as next
@@ -68,10 +69,15 @@ use Rattle.dfdl_parse.proofs.SeekSteps.{is_lost as text_lost, seek-lost, seek-ro
 use Rattle.dfdl_parse.proofs.LeafSteps.{Sees}
 use Rattle.dfdl_parse.proofs.TestSteps.{test-from, unknown}
 use Rattle.dfdl_parse.specs.Testing.{landed_test, read_test, verdict_in}
-use Rattle.dfdl_terms.specs.declared.asserting.PatternTest.{PatternTest}
+use Rattle.dfdl_parse.specs.Stating.{make_statement, with_behind}
+use Rattle.dfdl_terms.specs.declared.statement.Statement.{Statement as AnyStatement}
+use Rattle.dfdl_terms.specs.declared.statement.Statement.TheVariants.{Pattern, Expression, Setting, Calculation}
+use Rattle.dfdl_paths.specs.declared.place.Start.TheVariants.{At}
+use Rattle.dfdl_grammar.specs.Statements.{statement_of}
+use Rattle.dfdl_terms.specs.declared.statement.PatternTest.{PatternTest}
 use Rattle.dfdl_texts.specs.Texts.{Text}
 use Rattle.dfdl_grammar.specs.Leaves.{text_sought}
-use Rattle.dfdl_grammar.specs.Tests.{land_test, test_of}
+use Rattle.dfdl_grammar.specs.Tests.{land_test}
 use Rattle.dfdl_parse.proofs.Ahead.{filled, rest-seen, rested}
 
 -- a step that waits
@@ -204,12 +210,11 @@ module _ (table : Table) (held : Held) (s : State) where
       (λ stands. program_for-from (anchor s) nil (lists_of table.delimiters (markup s)) primitive s.at s.stop stands.low) k machine waits stays sees made is missing
 
   -- a test that waits
-  test-waits : (limits : Limits) (id number : ℕ) (test : Option PatternTest) (k : List Frame) → slice_get table.tests number ≡ test
-      → slice_get table.rows id ≡ Some (Test number) → (read_test one_row limits (Enter id) held number test k s).waits ≡ true
+  test-waits : (limits : Limits) (id number : ℕ) (test : PatternTest) (k : List Frame) → slice_get table.statements number ≡ Some (Pattern test)
+      → slice_get table.rows id ≡ Some (Statement number) → (read_test one_row limits (Enter id) held number test k s).waits ≡ true
       → Waits table held (Enter id) k s (read_test one_row limits (Enter id) held number test k s)
   unfolding meaning
-  test-waits limits id number None k is at waits = absurd (cc)
-  test-waits limits id number (Some test) k is at waits =
+  test-waits limits id number test k is at waits =
       let asks : Ask Text = text_sought test.form (aligned 8 s.at) s.stop in
       let here : Reading Text = ask (seen_at (from_byte held (anchor s))) asks nothing in
       let missing : here.reached ≡ Missing = unknown test.form here.reached waits in
@@ -218,8 +223,18 @@ module _ (table : Table) (held : Held) (s : State) where
       (λ input fits. record { agrees = fits.agrees; size = fits.size; stands = fits.stands })
       (λ input. land_test input.limits test number (asked_whole input asks).reached s)
       (λ input. ap (λ (r : Option Row). finish input table k (spend one_row (row input table (below input table id) id r s))) at
-      ∙ ap (λ (t : Option PatternTest). finish input table k (spend one_row (test_of input number t s))) is)
+      ∙ ap (λ (found : Option AnyStatement). finish input table k (spend one_row (statement_of input table number found s))) is)
       missing
+
+  -- a statement that waits is such a test
+  statement-waits : (limits : Limits) (id number : ℕ) (found : Option AnyStatement) (k : List Frame) → slice_get table.statements number ≡ found
+      → slice_get table.rows id ≡ Some (Statement number) → (make_statement one_row limits table (Enter id) held number found k s).waits ≡ true
+      → Waits table held (Enter id) k s (make_statement one_row limits table (Enter id) held number found k s)
+  statement-waits limits id number None k is at waits = absurd (cc)
+  statement-waits limits id number (Some (Pattern test)) k is at waits = test-waits limits id number test k is at waits
+  statement-waits limits id number (Some (Expression test)) k is at waits = absurd (cc)
+  statement-waits limits id number (Some (Setting setting)) k is at waits = absurd (cc)
+  statement-waits limits id number (Some (Calculation calculation)) k is at waits = absurd (cc)
 
   -- the values that are nil, if a leaf has to have one of them
   abbrev nil : Option (List Value)
@@ -425,7 +440,7 @@ module _ (table : Table) (held : Held) (s : State) where
   attempt-on : (cost : Tally) (most id : ℕ) (parts : Parts) (instead : Instead) (k : List Frame) (t : State) (room : Bool)
       → (cond room
       (pass cost held (Enter parts.body) (Element t.inside parts.complex ∷ k) (begun id instead t))
-      (pass cost held (Leave (Stopped Nodes most)) k t)).waits ≡ true → ⊥
+      (pass cost held (Leave (Stopped (Limit Nodes) most)) k t)).waits ≡ true → ⊥
   attempt-on cost most id parts instead k t true waits = absurd (cc)
   attempt-on cost most id parts instead k t false waits = absurd (cc)
 
@@ -496,8 +511,9 @@ module _ (table : Table) (held : Held) (s : State) where
   unfolding meaning
   enter-waits limits id None k at waits = absurd (cc)
   enter-waits limits id (Some (Leaf prim)) k at waits = leaf-waits limits id prim (slice_get table.primitives (read_by table.primitives s.instead prim)) k refl at waits
-  enter-waits limits id (Some (Elem name simple tried body)) k at waits =
-      absurd (element-on limits.nodes id (record { complex = has_elements simple; tried = tried; body = body }) k tried.are_several waits)
+  enter-waits limits id (Some (Elem name simple tried statements body)) k at waits =
+      absurd (element-on limits.nodes id (record { complex = has_elements simple; tried = tried; body = body }) (with_behind statements (At (length s.nodes)) k)
+      tried.are_several waits)
   enter-waits limits id (Some (Skip bits)) k at waits =
       absurd (begin-on (s.at + bits) k (nat_le (s.at + bits) s.at) (nat_le (s.at + bits) s.stop) waits)
   enter-waits limits id (Some (Align bits)) k at waits =
@@ -523,7 +539,8 @@ module _ (table : Table) (held : Held) (s : State) where
       (behind_units table.primitives prefix.unit (behind.Box body)) k by
       (λ input. ap (λ (r : Option Row). finish input table k (spend one_row (row input table (below input table id) id r s))) at)
       by refl waits
-  enter-waits limits id (Some (Test test)) k at waits = test-waits limits id test (slice_get table.tests test) k refl at waits
+  enter-waits limits id (Some (Statement number)) k at waits = statement-waits limits id number (slice_get table.statements number) k refl at waits
+  enter-waits limits id (Some (Concluded statements body)) k at waits = absurd (cc)
   enter-waits limits id (Some (Hidden body)) k at waits = absurd (cc)
   enter-waits limits id (Some (Separated policy position initiated slots)) k at waits =
       absurd (not-waiting _ (separated-passes held initiated k id policy position slots s).waits waits)
@@ -559,6 +576,8 @@ module _ (table : Table) (held : Held) (s : State) where
       not-waiting _ (closing-passes held (separation_at table slot).initiated k slot bit (slots_from table slot) true Done s).waits waits
   leave-on limits (Closing slot bit) (Failed cause at) k waits =
       not-waiting _ (closing-passes held (separation_at table slot).initiated k slot bit (slots_from table slot) false (Failed cause at) s).waits waits
+  leave-on limits (Concluding statements start) Done k waits = absurd (cc)
+  leave-on limits (Concluding statements start) (Failed cause bit) k waits = absurd (cc)
   leave-on limits frame (Stopped cause quantity) k waits = absurd (cc)
 
   -- a question of a slot that waits

@@ -14,8 +14,9 @@ use Rattle.dfdl_grammar.specs.Prefixes.{sized_leaf}
 use Rattle.dfdl_grammar.specs.Choices.{branches, or_branch}
 use Rattle.dfdl_grammar.specs.Occurrences.{after_occurrence, occurrences}
 use Rattle.dfdl_grammar.specs.Rows.{below, group, meaning}
+use Rattle.dfdl_grammar.specs.Statements.{concluded_at}
 use Rattle.dfdl_parse.specs.declared.frame.Frame.{Frame}
-use Rattle.dfdl_parse.specs.declared.frame.Frame.TheVariants.{Rest, Element, Box, Scope as ScopeFrame, Trial, Branch, Occurrence, Before, Content, Closing}
+use Rattle.dfdl_parse.specs.declared.frame.Frame.TheVariants.{Rest, Element, Box, Scope as ScopeFrame, Trial, Branch, Occurrence, Before, Content, Closing, Concluding}
 use Rattle.dfdl_parse.specs.declared.frame.Next.{Next}
 use Rattle.dfdl_parse.specs.declared.frame.Next.TheVariants as next
 use Rattle.dfdl_parse.specs.declared.frame.Parts.{Parts}
@@ -52,6 +53,7 @@ resume input table (Occurrence body initiated left) o = after_occurrence o.end o
 resume input table (Before slot) o = before_slot (sequence_of input table slot.sequence) slot (slots_from table slot) o
 resume input table (Content slot bit empty) o = content_slot (sequence_of input table slot.sequence) slot bit empty (slots_from table slot) o
 resume input table (Closing slot bit) o = closing_slot (sequence_of input table slot.sequence) slot bit (slots_from table slot) o
+resume input table (Concluding statements start) o = concluded_at o.end input.limits table start statements o
 
 -- what a stack makes of the outcome of the row before it
 unfoldable pub finish : Input → Table → List Frame → Outcome → Outcome

@@ -5,6 +5,7 @@ pub mod Prefixed
 pub mod Trials
 pub mod Points
 pub mod Testing
+pub mod Stating
 pub mod Slots
 pub mod SlotsAhead
 pub mod SlotLooks

@@ -6,11 +6,13 @@ use Rattle.dfdl_bits.specs.declared.window.Seen.TheVariants.{Byte, End as DataEn
 use Rattle.dfdl_report.specs.declared.cause.LimitCause.TheVariants.{Window}
 use Rattle.dfdl_report.specs.declared.cause.ParseCause.TheVariants.{DataEnds, LengthOutOfRange}
 use Rattle.dfdl_terms.specs.declared.row.Row.{Row}
-use Rattle.dfdl_terms.specs.declared.row.Row.TheVariants.{Leaf, Elem, Group, Skip, Align, Initiator, Terminator, Separator, Scope, Boxed, PrefixedLeaf, PrefixedBox, Repeat, Optional, Choice, Test, Hidden, Separated}
+use Rattle.dfdl_terms.specs.declared.row.Row.TheVariants.{Leaf, Elem, Group, Skip, Align, Initiator, Terminator, Separator, Scope, Boxed, PrefixedLeaf, PrefixedBox, Repeat, Optional, Choice, Statement, Concluded, Hidden, Separated}
+use Rattle.dfdl_paths.specs.declared.place.Start.TheVariants.{At, Inside}
 use Rattle.dfdl_terms.specs.Rows.{Table}
 use Rattle.dfdl_looks.specs.Tallies.{needs_from, nothing, one_row, saw_byte, saw_end, saw_none}
 use Rattle.dfdl_grammar.specs.declared.end.End.{End}
 use Rattle.dfdl_grammar.specs.declared.end.End.TheVariants.{Done, Failed, Stopped}
+use Rattle.dfdl_grammar.specs.declared.end.Halt.TheVariants.{Limit}
 use Rattle.dfdl_grammar.specs.declared.limits.Limits.{Limits}
 use Rattle.dfdl_grammar.specs.States.{State, anchor_at}
 use Rattle.dfdl_grammar.specs.Leaves.{nil_values, read_by}
@@ -19,7 +21,7 @@ use Rattle.dfdl_grammar.specs.Framing.{aligned}
 use Rattle.dfdl_grammar.specs.Delimiters.{closes_to, opens}
 use Rattle.dfdl_grammar.specs.Elements.{has_elements, left}
 use Rattle.dfdl_parse.specs.declared.frame.Frame.{Frame}
-use Rattle.dfdl_parse.specs.declared.frame.Frame.TheVariants.{Rest, Element, Box, Scope as ScopeFrame, Trial, Branch, Occurrence, Before, Content, Closing}
+use Rattle.dfdl_parse.specs.declared.frame.Frame.TheVariants.{Rest, Element, Box, Scope as ScopeFrame, Trial, Branch, Occurrence, Before, Content, Closing, Concluding}
 use Rattle.dfdl_parse.specs.declared.frame.Outside.{Outside}
 use Rattle.dfdl_parse.specs.declared.frame.Focus.{Focus}
 use Rattle.dfdl_parse.specs.declared.frame.Focus.TheVariants.{Enter, Pass, PassRest, Sized, Seek, LookIn, LookBehind, Leave}
@@ -28,7 +30,7 @@ use Rattle.dfdl_parse.specs.declared.frame.Sought.TheVariants as sought
 use Rattle.dfdl_parse.specs.Moves.{Move, pass, read_leaf}
 use Rattle.dfdl_parse.specs.Trials.{enter_element, parts_of, retry, trial_done}
 use Rattle.dfdl_parse.specs.Points.{branch_failed, occurrence_done, occurrence_failed, try_branch, try_occurrence}
-use Rattle.dfdl_parse.specs.Testing.{read_test}
+use Rattle.dfdl_parse.specs.Stating.{conclude, make_statement, reconsider, with_behind}
 use Rattle.dfdl_parse.specs.Slots.{before_done, before_failed, cause_of, closing_ended, content_ended, enter_separated, look_behind, look_in, separation_at, slots_from}
 use Rattle.dfdl_parse.specs.Boxing.{back_outside, hides}
 use Rattle.dfdl_parse.specs.Searches.{enter_delimiter, search}
@@ -38,7 +40,7 @@ use Rattle.dfdl_parse.specs.Prefixed.{behind_units, box_begins, read_prefix, rea
 abbrev pub children_of : Option Row → List ℕ
 children_of None = []
 children_of (Some (Leaf prim)) = []
-children_of (Some (Elem name simple tried body)) = []
+children_of (Some (Elem name simple tried statements body)) = []
 children_of (Some (Group children)) = children
 children_of (Some (Skip bits)) = []
 children_of (Some (Align bits)) = []
@@ -52,7 +54,8 @@ children_of (Some (PrefixedBox prefix body)) = []
 children_of (Some (Repeat count body)) = replicate count body
 children_of (Some (Optional most item initiated body)) = []
 children_of (Some (Choice branches initiated)) = branches
-children_of (Some (Test test)) = []
+children_of (Some (Statement number)) = []
+children_of (Some (Concluded statements body)) = []
 children_of (Some (Hidden body)) = []
 children_of (Some (Separated policy position initiated slots)) = []
 
@@ -75,7 +78,7 @@ fill_move window sight low to (Byte byte) k s =
     pass (needs_from low (saw_byte ((to - 1) / 8) nothing)) sight (Leave Done) k (record s { at = to })
 fill_move window sight low to DataEnded k s =
     pass (needs_from low (saw_end ((to - 1) / 8) nothing)) sight (Leave (Failed DataEnds s.at)) k s
-fill_move window sight low to Over k s = pass (needs_from low (saw_none nothing)) sight (Leave (Stopped Window window)) k s
+fill_move window sight low to Over k s = pass (needs_from low (saw_none nothing)) sight (Leave (Stopped (Limit Window) window)) k s
 fill_move window sight low to NotYet k s = record {
   tally = needs_from low (saw_none nothing);
   machine = record { focus = Pass to; stack = k; state = s };
@@ -113,7 +116,7 @@ abbrev pub rest_move : ℕ → Held → ℕ → ℕ → Outside → Seen → Lis
 rest_move window sight low bit outer (Byte b) k s = past_one sight low (bit / 8) outer k s
 rest_move window sight low bit outer DataEnded k s =
     pass (needs_from low (saw_end (bit / 8) nothing)) sight (Leave (Failed DataEnds s.at)) k (hides outer.hidden s)
-rest_move window sight low bit outer Over k s = pass (needs_from low (saw_none nothing)) sight (Leave (Stopped Window window)) k s
+rest_move window sight low bit outer Over k s = pass (needs_from low (saw_none nothing)) sight (Leave (Stopped (Limit Window) window)) k s
 rest_move window sight low bit outer NotYet k s = record {
   tally = needs_from low (saw_none nothing);
   machine = record { focus = PassRest bit outer; stack = k; state = s };
@@ -138,8 +141,8 @@ enter limits table held id None k s = pass one_row held (Leave Done) k s
 enter limits table held id (Some (Leaf prim)) k s =
     read_leaf one_row limits (Enter id) held table.delimiters (nil_values table.primitives s.instead)
     (slice_get table.primitives (read_by table.primitives s.instead prim)) k s
-enter limits table held id (Some (Elem name simple tried body)) k s =
-    enter_element limits.nodes held id (record { complex = has_elements simple; tried = tried; body = body }) k s
+enter limits table held id (Some (Elem name simple tried statements body)) k s =
+    enter_element limits.nodes held id (record { complex = has_elements simple; tried = tried; body = body }) (with_behind statements (At (length s.nodes)) k) s
 enter limits table held id (Some (Group children)) k s = enter_group held id children k s
 enter limits table held id (Some (Skip bits)) k s = enter_fill held (s.at + bits) k s
 enter limits table held id (Some (Align bits)) k s = enter_fill held (aligned bits s.at) k s
@@ -156,7 +159,10 @@ enter limits table held id (Some (Optional most item initiated body)) k s = try_
 enter limits table held id (Some (Choice branches initiated)) k s = try_branch one_row held id 0 (slice_get branches 0) k (pointed initiated s)
 enter limits table held id (Some (PrefixedBox prefix body)) k s =
     read_prefix limits id held table.delimiters prefix.own (behind_units table.primitives prefix.unit (behind.Box body)) (slice_get table.primitives prefix.prim) k s
-enter limits table held id (Some (Test test)) k s = read_test one_row limits (Enter id) held test (slice_get table.tests test) k s
+enter limits table held id (Some (Statement number)) k s =
+    make_statement one_row limits table (Enter id) held number (slice_get table.statements number) k s
+enter limits table held id (Some (Concluded statements body)) k s =
+    pass one_row held (Enter body) (with_behind statements (Inside s.inside) k) s
 enter limits table held id (Some (Hidden body)) k s = pass one_row held (Enter body) k s
 enter limits table held id (Some (Separated policy position initiated slots)) k s = enter_separated held id policy position initiated slots k s
 
@@ -166,18 +172,19 @@ go_on held id next None k s = pass nothing held (Leave Done) k s
 go_on held id next (Some child) k s = pass nothing held (Enter child) (Rest id (next + 1) ∷ k) s
 
 -- a row that is done, before what stands on the stack
-abbrev pub leave_done : Table → Held → Frame → List Frame → State → Move
-leave_done table held (Rest id next) k s = go_on held id next (slice_get (children_of (slice_get table.rows id)) next) k s
-leave_done table held (Element outer complex) k s = pass nothing held (Leave Done) k (left outer complex s)
-leave_done table held (Box outer) k s = leave_box held outer k s
-leave_done table held (ScopeFrame count) k s = pass nothing held (Leave Done) k (closes_to count s)
-leave_done table held (Trial id next) k s = trial_done held (parts_of (slice_get table.rows id)) next k s
-leave_done table held (Branch id next) k s = pass nothing held (Leave Done) k (closed s)
-leave_done table held (Occurrence body initiated left) k s = occurrence_done held body initiated left k s
-leave_done table held (Before slot) k s = before_done held slot (slots_from table slot) k s
-leave_done table held (Content slot bit empty) k s =
+abbrev pub leave_done : Limits → Table → Held → Frame → List Frame → State → Move
+leave_done limits table held (Rest id next) k s = go_on held id next (slice_get (children_of (slice_get table.rows id)) next) k s
+leave_done limits table held (Element outer complex) k s = pass nothing held (Leave Done) k (left outer complex s)
+leave_done limits table held (Box outer) k s = leave_box held outer k s
+leave_done limits table held (ScopeFrame count) k s = pass nothing held (Leave Done) k (closes_to count s)
+leave_done limits table held (Trial id next) k s = trial_done held (parts_of (slice_get table.rows id)) next k s
+leave_done limits table held (Branch id next) k s = pass nothing held (Leave Done) k (closed s)
+leave_done limits table held (Occurrence body initiated left) k s = occurrence_done held body initiated left k s
+leave_done limits table held (Before slot) k s = before_done held slot (slots_from table slot) k s
+leave_done limits table held (Content slot bit empty) k s =
     content_ended held (separation_at table slot).initiated slot bit empty (slots_from table slot) (nat_lt bit s.at) None Done k s
-leave_done table held (Closing slot bit) k s = closing_ended held (separation_at table slot).initiated slot bit (slots_from table slot) true Done k s
+leave_done limits table held (Closing slot bit) k s = closing_ended held (separation_at table slot).initiated slot bit (slots_from table slot) true Done k s
+leave_done limits table held (Concluding statements start) k s = conclude limits table held statements start k s
 
 -- a row that failed, at this end, before what stands on the stack
 abbrev pub leave_failed : ℕ → Table → Held → Frame → End → List Frame → State → Move
@@ -194,10 +201,11 @@ leave_failed most table held (Content slot bit empty) end k s =
     content_ended held (separation_at table slot).initiated slot bit empty (slots_from table slot) false (cause_of end) end k s
 leave_failed most table held (Closing slot bit) end k s =
     closing_ended held (separation_at table slot).initiated slot bit (slots_from table slot) false end k s
+leave_failed most table held (Concluding statements start) end k s = reconsider table held statements start end k s
 
 -- what stands on the stack takes the end of the row before it
 abbrev pub leave : Limits → Table → Held → Frame → End → List Frame → State → Move
-leave limits table held frame Done k s = leave_done table held frame k s
+leave limits table held frame Done k s = leave_done limits table held frame k s
 leave limits table held frame (Failed cause bit) k s = leave_failed limits.nodes table held frame (Failed cause bit) k s
 leave limits table held frame (Stopped cause quantity) k s = pass nothing held (Leave (Stopped cause quantity)) k s
 

@@ -14,7 +14,7 @@ use Rattle.dfdl_grammar.specs.Framing.{aligned}
 use Rattle.dfdl_grammar.specs.Slots.{has_mark, is_tried, opens_before}
 use Rattle.dfdl_grammar.specs.States.{State, anchor_at}
 use Rattle.dfdl_parse.specs.declared.frame.Frame.{Frame}
-use Rattle.dfdl_parse.specs.declared.frame.Frame.TheVariants.{Rest, Element, Box, Scope as ScopeFrame, Trial, Branch, Occurrence, Before, Content, Closing}
+use Rattle.dfdl_parse.specs.declared.frame.Frame.TheVariants.{Rest, Element, Box, Scope as ScopeFrame, Trial, Branch, Occurrence, Before, Content, Closing, Concluding}
 use Rattle.dfdl_parse.specs.declared.frame.Focus.{Focus}
 use Rattle.dfdl_parse.specs.declared.frame.Focus.TheVariants.{Enter, Pass, PassRest, Sized, Seek, LookIn, LookBehind, Leave}
 
@@ -39,6 +39,7 @@ points_of (Occurrence body initiated left ∷ k) = true ∷ points_of k
 points_of (Before slot ∷ k) = before_points (here_of slot.progress slot.rule) (points_of k)
 points_of (Content slot bit empty ∷ k) = slot_points (here_of slot.progress slot.rule) (points_of k)
 points_of (Closing slot bit ∷ k) = slot_points (here_of slot.progress slot.rule) (points_of k)
+points_of (Concluding statements start ∷ k) = points_of k
 
 -- Of these marks only points are resolved, none is behind this bit or behind one inside of it, and the bytes from each on that isn't
 -- resolved are needed, which are none before this one.
@@ -112,6 +113,7 @@ Lie at (Content slot bit empty ∷ k) marks =
     IsContent slot bit empty at marks × Lie (slot_at (here_of slot.progress slot.rule) marks at) k (outside_slot (here_of slot.progress slot.rule) marks)
 Lie at (Closing slot bit ∷ k) marks =
     IsClosing slot × Lie (slot_at (here_of slot.progress slot.rule) marks at) k (outside_slot (here_of slot.progress slot.rule) marks)
+Lie at (Concluding statements start ∷ k) marks = Lie at k marks
 
 -- the open marks are those of what is tried on the stack
 abbrev pub AreOpen : ℕ → ℕ → List Frame → List Mark → Type 0
@@ -159,6 +161,7 @@ ComesBack (Occurrence body initiated left) at = Unit {0}
 ComesBack (Before slot) at = Unit {0}
 ComesBack (Content slot bit empty) at = bit ≤ at
 ComesBack (Closing slot bit) at = Unit {0}
+ComesBack (Concluding statements start) at = Unit {0}
 
 -- the same of what stands first on a stack
 abbrev pub ComesBackIn : List Frame → ℕ → Type 0

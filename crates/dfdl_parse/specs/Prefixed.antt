@@ -13,6 +13,7 @@ use Rattle.dfdl_looks.specs.Asks.{Reached, Told, TooFar, Missing, Reading, ask}
 use Rattle.dfdl_looks.specs.Tallies.{needs_from, nothing, one_row, plus}
 use Rattle.dfdl_grammar.specs.declared.end.End.{End}
 use Rattle.dfdl_grammar.specs.declared.end.End.TheVariants.{Done, Failed, Stopped}
+use Rattle.dfdl_grammar.specs.declared.end.Halt.TheVariants.{Limit}
 use Rattle.dfdl_grammar.specs.declared.limits.Limits.{Limits}
 use Rattle.dfdl_grammar.specs.States.{State, anchor}
 use Rattle.dfdl_grammar.specs.Leaves.{Find, Fails, Finds, FindsOctets, FindsText, content_begins, failing_bit, has_room, program}
@@ -68,7 +69,7 @@ landed_prefix limits id own first next (Told (Fails cause)) k s = at_end (Failed
 landed_prefix limits id own first next (Told (Finds content end)) k s = units_begin end next (units_told own content) k s
 landed_prefix limits id own first next (Told (FindsOctets bytes end)) k s = at_end (Failed LengthOutOfRange s.at) k s
 landed_prefix limits id own first next (Told (FindsText bytes end)) k s = at_end (Failed LengthOutOfRange s.at) k s
-landed_prefix limits id own first next TooFar k s = at_end (Stopped Window limits.window) k s
+landed_prefix limits id own first next TooFar k s = at_end (Stopped (Limit Window) limits.window) k s
 
 -- the step of a prefix whose reading this is, with these bytes held behind it
 abbrev pub prefix_move : Limits → ℕ → ℕ → ℕ → (ℕ → List Frame → State → Machine) → Held → Reading Find → List Frame → State → Move

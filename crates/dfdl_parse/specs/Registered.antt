@@ -1,7 +1,8 @@
 -- Mirror for the prover: the lists of the tables that the machine's register holds, and those that the machine names.
-use Rattle.std.specs.Prelude.{ℕ, ◌<◌, List, length, map, All}
+use Rattle.std.specs.Prelude.{◌≡◌, ℕ, ◌<◌, List, length, map, All}
 use Rattle.dfdl_delims.specs.Registers.{Holds}
 use Rattle.dfdl_terms.specs.declared.delimiters.Delimiters.{Delimiters}
+use Rattle.dfdl_terms.specs.Arrays.{item_marks}
 use Rattle.dfdl_terms.specs.Rows.{Table}
 use Rattle.dfdl_grammar.specs.Delimiters.{opened}
 use Rattle.dfdl_parse.specs.declared.frame.Focus.{Focus}
@@ -31,7 +32,9 @@ pub record ListsWithin (count : ℕ) (m : Machine) : Type 0 where
   pub sought : SeeksWithin count m.focus
   pub open_lists : All (λ n. n < count) m.state.lists
 
--- the register holds the lists of the tables, list n of them as list n, and the machine names no others
+-- the register holds the lists of the tables, list n of them as list n, the machine names no others, and the rows are marked whose elements
+-- are items
 pub record IsRegistered (table : Table) (p : Parser) : Type 0 where
   pub holds : Holds p.markup (map opened table.delimiters)
   pub within : ListsWithin (length table.delimiters) (shown p)
+  pub marked : p.items ≡ item_marks table.rows

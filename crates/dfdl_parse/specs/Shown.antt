@@ -20,6 +20,7 @@ state_of p = record {
   lists = p.lists;
   hidden = p.hidden;
   marks = p.marks;
+  variables = p.variables;
 }
 
 -- the machine
@@ -34,9 +35,9 @@ limits_of p held = record { window = held.size; nodes = p.region.most; text = p.
 abbrev pub KeepsTo : Parser → Limits → Type 0
 KeepsTo p limits = (limits.nodes ≡ p.region.most) × (limits.text ≡ p.text.most)
 
--- the regions have the limits as before, and the register of lists holds what it held
+-- the regions have the limits as before, the register of lists holds what it held, and the same rows are marked as those of items
 abbrev pub HasSameLimits : Parser → Parser → Type 0
-HasSameLimits old new = (new.region.most ≡ old.region.most) × ((new.text.most ≡ old.text.most) × (new.markup ≡ old.markup))
+HasSameLimits old new = (new.region.most ≡ old.region.most) × ((new.text.most ≡ old.text.most) × ((new.markup ≡ old.markup) × (new.items ≡ old.items)))
 
 -- the parser has come to this outcome, and nothing besides has changed of it
 pub record Comes (old : Parser) (o : Outcome) (new : Parser) : Type 0 where

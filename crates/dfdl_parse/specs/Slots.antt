@@ -25,6 +25,7 @@ use Rattle.dfdl_looks.specs.Asks.{Reached, Told, TooFar, Missing, Reading, ask}
 use Rattle.dfdl_looks.specs.Tallies.{Tally, needs_from, nothing, one_row, plus}
 use Rattle.dfdl_grammar.specs.declared.end.End.{End}
 use Rattle.dfdl_grammar.specs.declared.end.End.TheVariants.{Done, Failed, Stopped}
+use Rattle.dfdl_grammar.specs.declared.end.Halt.TheVariants.{Limit}
 use Rattle.dfdl_grammar.specs.declared.limits.Limits.{Limits}
 use Rattle.dfdl_grammar.specs.States.{State, anchor}
 use Rattle.dfdl_grammar.specs.Marks.{is_settled, marked, pointed}
@@ -229,7 +230,7 @@ closing_ended held initiated slot bit (own ∷ slots) found end k s = settled no
 -- the step of a question that leaves the state where it is, by its answer: as it was, where a byte hasn't come
 abbrev pub told_move : Limits → Focus → Held → Tally → (Bool → Move) → Reached Bool → List Frame → State → Move
 told_move limits focus sight cost next (Told answer) k s = next answer
-told_move limits focus sight cost next TooFar k s = pass cost sight (Leave (Stopped Window limits.window)) k s
+told_move limits focus sight cost next TooFar k s = pass cost sight (Leave (Stopped (Limit Window) limits.window)) k s
 told_move limits focus sight cost next Missing k s = record {
   tally = cost;
   machine = record { focus = focus; stack = k; state = s };

@@ -4,10 +4,11 @@ use Rattle.dfdl_bits.specs.Window.{Held}
 use Rattle.dfdl_report.specs.declared.cause.LimitCause.TheVariants.{Nodes}
 use Rattle.dfdl_report.specs.declared.cause.ParseCause.TheVariants.{RequiredEmpty}
 use Rattle.dfdl_terms.specs.declared.row.Row.{Row}
-use Rattle.dfdl_terms.specs.declared.row.Row.TheVariants.{Leaf, Elem, Group, Skip, Align, Initiator, Terminator, Separator, Scope, Boxed, PrefixedLeaf, PrefixedBox, Repeat, Optional, Choice, Test, Hidden, Separated}
+use Rattle.dfdl_terms.specs.declared.row.Row.TheVariants.{Leaf, Elem, Group, Skip, Align, Initiator, Terminator, Separator, Scope, Boxed, PrefixedLeaf, PrefixedBox, Repeat, Optional, Choice, Statement, Concluded, Hidden, Separated}
 use Rattle.dfdl_looks.specs.Tallies.{Tally, nothing, one_row, plus}
 use Rattle.dfdl_grammar.specs.declared.end.End.{End}
 use Rattle.dfdl_grammar.specs.declared.end.End.TheVariants.{Done, Failed, Stopped}
+use Rattle.dfdl_grammar.specs.declared.end.Halt.TheVariants.{Limit}
 use Rattle.dfdl_grammar.specs.declared.instead.Instead.{Instead}
 use Rattle.dfdl_grammar.specs.declared.instead.Instead.TheVariants.{Nothing, Nil, Empty}
 use Rattle.dfdl_grammar.specs.declared.mark.Mark.{Mark}
@@ -26,7 +27,7 @@ use Rattle.dfdl_parse.specs.Moves.{Move, pass}
 abbrev pub parts_of : Option Row → Option Parts
 parts_of None = None
 parts_of (Some (Leaf prim)) = None
-parts_of (Some (Elem name simple tried body)) = Some (record { complex = has_elements simple; tried = tried; body = body })
+parts_of (Some (Elem name simple tried statements body)) = Some (record { complex = has_elements simple; tried = tried; body = body })
 parts_of (Some (Group children)) = None
 parts_of (Some (Skip bits)) = None
 parts_of (Some (Align bits)) = None
@@ -40,7 +41,8 @@ parts_of (Some (PrefixedBox prefix body)) = None
 parts_of (Some (Repeat count body)) = None
 parts_of (Some (Optional most item initiated body)) = None
 parts_of (Some (Choice branches initiated)) = None
-parts_of (Some (Test test)) = None
+parts_of (Some (Statement number)) = None
+parts_of (Some (Concluded statements body)) = None
 parts_of (Some (Hidden body)) = None
 parts_of (Some (Separated policy position initiated slots)) = None
 
@@ -53,7 +55,7 @@ abbrev pub attempt : Tally → ℕ → Held → ℕ → Parts → Instead → Li
 attempt cost most held id parts instead k s =
     if nat_lt (length s.nodes) most
     then pass cost held (Enter parts.body) (Element s.inside parts.complex ∷ k) (begun id instead s)
-    else pass cost held (Leave (Stopped Nodes most)) k s
+    else pass cost held (Leave (Stopped (Limit Nodes) most)) k s
 
 -- the normal representation begins, as the last one
 abbrev pub try_normal : Tally → ℕ → Held → ℕ → Parts → List Frame → State → Move

@@ -1,6 +1,7 @@
 use dfdl_grammar::End;
+use dfdl_paths::Start;
 use dfdl_separators::{Here, Progress, SlotRule};
-use dfdl_terms::{Representations, RowId, TextSize};
+use dfdl_terms::{Representations, RowId, Statements, TextSize};
 
 /// What is left to be done behind a row.
 #[derive(Debug, Clone, Copy, PartialEq, Eq)]
@@ -54,6 +55,11 @@ pub enum Frame {
     Closing {
         slot: SlotPlace,
         bit: u64,
+    },
+    /// A component ends that has these statements behind it, whose expressions begin there ('DFDL Schema Component Model').
+    Concluding {
+        behind: Statements,
+        start: Start,
     },
 }
 

@@ -6,6 +6,7 @@ ghost use Rattle.dfdl_report.specs.declared.cause.LimitCause.TheVariants.{Text};
 ghost use Rattle.dfdl_region.specs.Nodes.{with_content};
 ghost use Rattle.dfdl_grammar.specs.declared.end.End.{End as AnyEnd};
 ghost use Rattle.dfdl_grammar.specs.declared.end.End.TheVariants.{Done};
+ghost use Rattle.dfdl_grammar.specs.declared.end.Halt.TheVariants.{Limit};
 ghost use Rattle.dfdl_grammar.specs.Outcomes.{ended};
 ghost use Rattle.dfdl_terms.specs.declared.delimiters.Delimiters.{Delimiters};
 ghost use Rattle.dfdl_grammar.specs.Delimiters.{lists_of, markup};
@@ -216,7 +217,7 @@ impl Parser {
     }
 
     // The innermost open element gets its content, which ends at a bit.
-    fn put(&mut self, content: Content, end: u64)
+    pub(crate) fn put(&mut self, content: Content, end: u64)
         ensures { Comes self.old (ended Done (record (state_of self.old) {
           at = end;
           nodes = with_content self.old.region.nodes self.old.inside content;
@@ -270,8 +271,8 @@ impl Parser {
     }
 
     // There are as many bytes of texts as there may be.
-    fn stop_at_text(&mut self)
-        ensures { self.new ≡ record self.old { focus = Focus.Leave (AnyEnd.Stopped Text self.old.text.most) } }
+    pub(crate) fn stop_at_text(&mut self)
+        ensures { self.new ≡ record self.old { focus = Focus.Leave (AnyEnd.Stopped (Limit Text) self.old.text.most) } }
     {
         let most = u64::from(self.text.most());
         self.stop_at(LimitCause::Text, most);

@@ -1,6 +1,7 @@
 // A row has ended, and what stands on the stack takes its end.
 ghost use Rattle.std.specs.Prelude.{replicate, ◌≡◌, ◌∷◌, ◌^◌, ◌<◌, ◌≤◌, false, IfSome, OnOk, slice_get};
 ghost use Rattle.dfdl_bits.specs.Window.{Held};
+ghost use Rattle.dfdl_terms.specs.Arrays.{item_marks};
 ghost use Rattle.dfdl_grammar.specs.declared.end.End.TheVariants.{Done};
 ghost use Rattle.dfdl_grammar.specs.Elements.{left};
 ghost use Rattle.dfdl_looks.specs.Tallies.{nothing};
@@ -22,6 +23,7 @@ impl Parser {
     // What stands on the stack takes the end of the row before it.
     pub(crate) fn leave(&mut self, terms: &Terms, end: End) -> Result<(), AllocError>
         requires focus { self.old.focus ≡ Focus.Leave end }
+        requires items { self.old.items ≡ item_marks terms.now.rows }
         ensures moved { (held : Held) → OnOk result (Moved
             (step (limits_of self.old held) terms.now held (Focus.Leave end) self.old.stack (state_of self.old))
             false self.old.far self.new held 0) }
@@ -36,6 +38,7 @@ impl Parser {
 
     // A frame takes the end of the row before it.
     fn resume(&mut self, terms: &Terms, frame: Frame, end: End) -> Result<(), AllocError>
+        requires items { self.old.items ≡ item_marks terms.now.rows }
         ensures moved { (held : Held) → OnOk result (Moved
             (leave (limits_of self.old held) terms.now held frame end self.old.stack (state_of self.old)) false self.old.far self.new held 0) }
         ensures most { OnOk result (HasSameLimits self.old self.new) }
@@ -53,6 +56,7 @@ impl Parser {
 
     // What stands on the stack takes a row that failed, at this end.
     fn give_up(&mut self, terms: &Terms, frame: Frame, end: End) -> Result<(), AllocError>
+        requires items { self.old.items ≡ item_marks terms.now.rows }
         ensures moved { (held : Held) → OnOk result (Moved
             (leave_failed self.old.region.most terms.now held frame end self.old.stack (state_of self.old)) false self.old.far self.new held 0) }
         ensures most { OnOk result (HasSameLimits self.old self.new) }
@@ -73,6 +77,7 @@ impl Parser {
                 self.end_content(terms, slot, bit, empty, false, end)
             }
             Frame::Closing { slot, bit } => self.end_closing(terms, slot, bit, false, end),
+            Frame::Concluding { behind, start } => self.reconsider(terms, behind, start, end),
             Frame::Rest { .. } => {
                 self.focus = Focus::Leave(end);
                 Ok(())
@@ -95,8 +100,9 @@ impl Parser {
 
     // What stands on the stack goes on behind a row that is done.
     fn go_on(&mut self, terms: &Terms, frame: Frame) -> Result<(), AllocError>
+        requires items { self.old.items ≡ item_marks terms.now.rows }
         ensures moved { (held : Held) → OnOk result (Moved
-            (leave_done terms.now held frame self.old.stack (state_of self.old)) false self.old.far self.new held 0) }
+            (leave_done (limits_of self.old held) terms.now held frame self.old.stack (state_of self.old)) false self.old.far self.new held 0) }
         ensures most { OnOk result (HasSameLimits self.old self.new) }
         ensures at { OnOk result (IsBefore self.old.marks self.old.at → ComesBack frame self.old.at → self.new.at ≤ self.old.at) }
     {
@@ -134,6 +140,7 @@ impl Parser {
                 self.end_content(terms, slot, bit, empty, moved, End::Done)
             }
             Frame::Closing { slot, bit } => self.end_closing(terms, slot, bit, true, End::Done),
+            Frame::Concluding { behind, start } => self.conclude(terms, behind, start),
         }
     }
 
@@ -200,7 +207,8 @@ pub(crate) fn child_of(terms: &Terms, group: RowId, place: usize) -> Option<RowI
         Row::Repeat { count, body } => repeated(*count, *body, place),
         Row::Optional { .. } => None,
         Row::Choice { branches, .. } => branches.as_slice().get(place).copied(),
-        Row::Test { .. } => None,
+        Row::Statement { .. } => None,
+        Row::Concluded { .. } => None,
         Row::Hidden { .. } => None,
         Row::Separated { .. } => None,
     }

@@ -27,6 +27,7 @@ mod slots_ends;
 mod slots_looks;
 mod slots_steps;
 pub mod stack;
+mod stating;
 mod testing;
 mod trials;
 

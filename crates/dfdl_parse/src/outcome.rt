@@ -1,4 +1,4 @@
-use dfdl_report::{LimitCause, ParseCause};
+use dfdl_report::{LimitCause, ParseCause, VariableCause};
 
 /// What a session has come to.
 #[derive(Debug, Clone, Copy, PartialEq, Eq)]
@@ -10,6 +10,8 @@ pub enum Outcome {
     Failed { cause: ParseCause, bit: u64 },
     /// A limit was reached, which allows this quantity.
     Limit { cause: LimitCause, quantity: u64 },
+    /// A variable can't be set, at a bit of the data.
+    Variable { cause: VariableCause, bit: u64 },
     /// There was not enough memory.
     OutOfMemory,
 }

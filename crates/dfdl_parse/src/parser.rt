@@ -3,6 +3,7 @@ ghost use Rattle.std.specs.Prelude.{replicate, ◌≡◌, length, ◌+◌, ◌-�
 ghost use Rattle.dfdl_bits.specs.Window.{Held, end_of};
 ghost use Rattle.dfdl_grammar.specs.declared.end.End.{End as AnyEnd};
 ghost use Rattle.dfdl_grammar.specs.declared.end.End.TheVariants.{Done};
+ghost use Rattle.dfdl_grammar.specs.declared.end.Halt.TheVariants.{Limit};
 ghost use Rattle.dfdl_grammar.specs.declared.instead.Instead.{Instead as AnyInstead};
 ghost use Rattle.dfdl_grammar.specs.States.{anchor_at, no_box};
 ghost use Rattle.dfdl_grammar.specs.Documents.{front_at};
@@ -20,13 +21,16 @@ use crate::outcome::Outcome;
 use crate::register::register_of;
 use crate::scopes::Scopes;
 use crate::stack::Stack;
+use crate::stating::{evaluation_of, variables_of};
 use dfdl_bits::{Seen, Steps, Window};
 use dfdl_delims::{Candidates, Markup};
-use dfdl_grammar::{End, Instead, Limits};
+use dfdl_expression_eval::Scratch as Evaluation;
+use dfdl_grammar::{End, Halt, Instead, Limits};
 use dfdl_leaves::{Scratch, aligned};
 use dfdl_region::{NodeRegion, TextRegion};
 use dfdl_report::{LimitCause, ParseCause};
-use dfdl_terms::{Row, RowId, Terms};
+use dfdl_terms::{Items, Row, RowId, Terms};
+use dfdl_vars::Vars;
 use std::alloc::{AllocError, Global};
 use std::sync::ledger::Ledger;
 
@@ -59,6 +63,9 @@ pub struct Parser {
     pub(crate) scratch: Scratch,
     pub(crate) markup: Markup,
     pub(crate) candidates: Candidates,
+    pub(crate) variables: Vars,
+    pub(crate) items: Items,
+    pub(crate) evaluation: Evaluation,
     pub(crate) far: u64,
 }
 
@@ -67,7 +74,7 @@ impl Parser {
     pub(crate) fn open(alloc: Global, terms: &Terms, limits: Limits) -> Result<Parser, AllocError>
         ensures focus { IfOk result (λ p. p.focus ≡ Focus.Enter (length terms.now.rows - 1)) }
         ensures stack { IfOk result (λ p. p.stack ≡ []) }
-        ensures front { IfOk result (λ p. state_of p ≡ front_at 0) }
+        ensures front { IfOk result (λ p. state_of p ≡ front_at terms.now 0) }
         ensures far { IfOk result (λ p. p.far ≡ 0) }
         ensures registered { IfOk result (λ p. IsRegistered terms.now p) }
         ensures region { IfOk result (λ p. p.region ≡ record { nodes = []; most = limits.nodes }) }
@@ -88,22 +95,26 @@ impl Parser {
             scratch: Scratch::open(alloc),
             markup: register_of(alloc, terms.tables().delimiters())?,
             candidates: Candidates::new(alloc),
+            variables: variables_of(alloc, terms)?,
+            items: Items::of(alloc, terms)?,
+            evaluation: evaluation_of(alloc)?,
             far: 0,
         })
     }
 
     /// The machine before the root element's row at a byte, where nothing is open.
-    pub(crate) fn begin(&mut self, terms: &Terms, start: u64)
+    pub(crate) fn begin(&mut self, terms: &Terms, start: u64) -> Result<(), AllocError>
         requires bound { start ≤ 2 ^ 60 }
         requires none { (self.old.stack ≡ []) × (self.old.marks ≡ []) }
         requires registered { IsRegistered terms.now self.old }
-        ensures focus { self.new.focus ≡ Focus.Enter (length terms.now.rows - 1) }
-        ensures stack { self.new.stack ≡ [] }
-        ensures front { state_of self.new ≡ front_at start }
-        ensures far { self.new.far ≡ 0 }
-        ensures most { HasSameLimits self.old self.new }
-        ensures registered { IsRegistered terms.now self.new }
+        ensures focus { OnOk result (self.new.focus ≡ Focus.Enter (length terms.now.rows - 1)) }
+        ensures stack { OnOk result (self.new.stack ≡ []) }
+        ensures front { OnOk result (state_of self.new ≡ front_at terms.now start) }
+        ensures far { OnOk result (self.new.far ≡ 0) }
+        ensures most { OnOk result (HasSameLimits self.old self.new) }
+        ensures registered { OnOk result (IsRegistered terms.now self.new) }
     {
+        self.variables = variables_of(self.scratch.alloc, terms)?;
         self.focus = Focus::Enter(RowId::new(terms.rows() - 1));
         self.at = 8 * start;
         self.stop = NO_BOX;
@@ -114,6 +125,7 @@ impl Parser {
         self.region.clear();
         self.text.clear();
         self.far = 0;
+        Ok(())
     }
 
     /// What the machine has come to.
@@ -234,6 +246,7 @@ impl Parser {
             Row::Elem {
                 simple,
                 tried,
+                behind,
                 body,
                 ..
             } => {
@@ -242,7 +255,7 @@ impl Parser {
                     tried: *tried,
                     body: *body,
                 };
-                self.begin_element(id, parts)?;
+                self.begin_with(id, *behind, parts)?;
                 Ok(false)
             }
             Row::Group { children } => {
@@ -315,9 +328,14 @@ impl Parser {
                 self.begin_choice(id, branches.as_slice(), *initiated)?;
                 Ok(false)
             }
-            Row::Test { test } => {
-                let waits = self.begin_test(terms, *test, sight, steps)?;
+            Row::Statement { statement } => {
+                let waits = self.begin_statement(terms, *statement, sight, steps)?;
                 Ok(waits)
+            }
+            Row::Concluded { behind, body } => {
+                let _end = sight.end();
+                self.begin_concluded(*behind, *body)?;
+                Ok(false)
             }
             Row::Hidden { body } => {
                 let _end = sight.end();
@@ -454,9 +472,12 @@ impl Parser {
 
     // The work ends at a limit, which allows this quantity.
     pub(crate) fn stop_at(&mut self, cause: LimitCause, quantity: u64)
-        ensures { self.new ≡ record self.old { focus = Focus.Leave (AnyEnd.Stopped cause quantity) } }
+        ensures { self.new ≡ record self.old { focus = Focus.Leave (AnyEnd.Stopped (Limit cause) quantity) } }
     {
-        self.focus = Focus::Leave(End::Stopped { cause, quantity });
+        self.focus = Focus::Leave(End::Stopped {
+            cause: Halt::Limit(cause),
+            quantity,
+        });
     }
 }
 
@@ -467,6 +488,19 @@ fn answer_of(end: End) -> Outcome
     match end {
         End::Done => Outcome::Done,
         End::Failed { cause, bit } => Outcome::Failed { cause, bit },
-        End::Stopped { cause, quantity } => Outcome::Limit { cause, quantity },
+        End::Stopped { cause, quantity } => halted(cause, quantity),
+    }
+}
+
+// The answer where parsing ended at once, by the quantity beside the cause.
+fn halted(cause: Halt, quantity: u64) -> Outcome
+    ensures { result ≡ answer_of (AnyEnd.Stopped cause quantity) }
+{
+    match cause {
+        Halt::Limit(cause) => Outcome::Limit { cause, quantity },
+        Halt::Variable(cause) => Outcome::Variable {
+            cause,
+            bit: quantity,
+        },
     }
 }

@@ -91,7 +91,8 @@ fn push_name(
         Row::Repeat { .. } => Ok(()),
         Row::Optional { .. } => Ok(()),
         Row::Choice { .. } => Ok(()),
-        Row::Test { .. } => Ok(()),
+        Row::Statement { .. } => Ok(()),
+        Row::Concluded { .. } => Ok(()),
         Row::Hidden { .. } => Ok(()),
         Row::Separated { .. } => Ok(()),
     }

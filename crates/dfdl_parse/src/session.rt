@@ -166,23 +166,30 @@ impl<'t> Session<'t> {
     }
 
     /// Begins with the next document of the stream, at the first whole byte behind the one that is done, with no elements, no
-    /// texts and no steps. The bytes before it are given up; those behind it that have come are kept.
-    pub fn next_document(&mut self)
+    /// texts and no steps, where each variable begins with its default again. The bytes before it are given up; those behind it that have
+    /// come are kept.
+    pub fn next_document(&mut self) -> Result<(), AllocError>
         requires sound { IsSound self.old }
         requires done { answer_at self.old.parser.focus self.old.parser.stack ≡ Outcome.Done }
-        ensures sound { IsSound self.new }
-        ensures begins { self.new.start ≡ byte_behind self.old.parser.at }
-        ensures front { state_of self.new.parser ≡ front_at self.new.start }
-        ensures stands { (stream : List ℕ) → HasTaken self.old stream → StandsFor self.new stream (byte_behind self.old.parser.at) 0 0 }
-        ensures held { self.new.sight ≡ from_byte self.old.sight self.new.start }
-        ensures going_on { self.new.sight.ended ≡ self.old.sight.ended }
+        ensures sound { OnOk result (IsSound self.new) }
+        ensures begins { OnOk result (self.new.start ≡ byte_behind self.old.parser.at) }
+        ensures front { OnOk result (state_of self.new.parser ≡ front_at self.new.terms.now self.new.start) }
+        ensures stands { OnOk result ((stream : List ℕ) → HasTaken self.old stream
+            → StandsFor self.new stream (byte_behind self.old.parser.at) 0 0) }
+        ensures held { OnOk result (self.new.sight ≡ from_byte self.old.sight self.new.start) }
+        ensures going_on { OnOk result (self.new.sight.ended ≡ self.old.sight.ended) }
         ensures same { (self.new.terms ≡ self.old.terms) × (self.new.limits ≡ self.old.limits) }
+        ensures lost { OnErr result (self.new.lost ≡ true) }
     {
         let _end = self.sight.end();
         let start = (self.parser.at + 7) / 8;
         self.sight.drop_before(start);
-        self.parser.begin(self.terms, start);
+        if let Err(fault) = self.parser.begin(self.terms, start) {
+            self.lost = true;
+            return Err(fault);
+        }
         self.start = start;
+        Ok(())
     }
 
     /// What the session has come to.

@@ -1,5 +1,5 @@
 // Tests of patterns: asserts, and discriminators, which resolve the innermost point.
-ghost use Rattle.std.specs.Prelude.{◌≡◌, ℕ, ◌-◌, ◌*◌, ◌/◌, ◌^◌, ◌≤◌, [], IfOk, OnOk, Some, slice_get};
+ghost use Rattle.std.specs.Prelude.{◌≡◌, ℕ, ◌-◌, ◌*◌, ◌/◌, ◌^◌, ◌≤◌, [], IfOk, OnOk};
 ghost use Rattle.dfdl_bits.specs.Window.{Held, end_of, from_byte, seen_at};
 ghost use Rattle.dfdl_texts.specs.Readings.{found_shown};
 ghost use Rattle.dfdl_texts.specs.Texts.{Text};
@@ -21,7 +21,7 @@ use dfdl_bits::{Steps, Window};
 use dfdl_grammar::End;
 use dfdl_leaves::{Scratch, put_text, read_sought};
 use dfdl_report::{LimitCause, ParseCause};
-use dfdl_terms::{PatternForm, PatternTest, Terms};
+use dfdl_terms::{PatternForm, PatternTest};
 use dfdl_texts::Found;
 use std::alloc::AllocError;
 use std::sync::ledger::Ledger;
@@ -45,37 +45,8 @@ pub(crate) struct Told {
 }
 
 impl Parser {
-    // A test begins: the one of this number, if there is one.
-    pub(crate) fn begin_test<L: Ledger>(
-        &mut self,
-        terms: &Terms,
-        number: u32,
-        sight: &mut Window,
-        steps: &mut Steps<L>,
-    ) -> Result<bool, AllocError>
-        requires base { IsHeld sight.old.base self.old.at (state_of self.old) }
-        requires at { self.old.at ≤ 8 * end_of sight.old }
-        ensures moved { IfOk result (λ waits. (cost : Tally) → IsFree cost → Moved
-            (read_test cost (limits_of self.old sight.old) self.old.focus sight.old number (slice_get terms.now.tests number) self.old.stack (state_of self.old))
-            waits self.old.far self.new sight.new (steps.new - steps.old)) }
-        ensures steps { steps.old ≤ steps.new }
-        ensures most { OnOk result (HasSameLimits self.old self.new) }
-        ensures at { OnOk result (self.new.at ≤ 8 * end_of sight.new) }
-    {
-        match terms.tables().tests().get(number as usize) {
-            None => {
-                self.focus = Focus::Leave(End::Done);
-                Ok(false)
-            }
-            Some(test) => {
-                let waits = self.read_test(test, number, sight, steps)?;
-                Ok(waits)
-            }
-        }
-    }
-
     // The text of a test is read, and what it tells is taken.
-    fn read_test<L: Ledger>(
+    pub(crate) fn read_test<L: Ledger>(
         &mut self,
         test: &PatternTest,
         number: u32,
@@ -85,7 +56,7 @@ impl Parser {
         requires base { IsHeld sight.old.base self.old.at (state_of self.old) }
         requires at { self.old.at ≤ 8 * end_of sight.old }
         ensures moved { IfOk result (λ waits. (cost : Tally) → IsFree cost → Moved
-            (read_test cost (limits_of self.old sight.old) self.old.focus sight.old number (Some test.now) self.old.stack (state_of self.old))
+            (read_test cost (limits_of self.old sight.old) self.old.focus sight.old number test.now self.old.stack (state_of self.old))
             waits self.old.far self.new sight.new (steps.new - steps.old)) }
         ensures steps { steps.old ≤ steps.new }
         ensures most { OnOk result (HasSameLimits self.old self.new) }
@@ -130,7 +101,7 @@ impl Parser {
     {
         match told.verdict {
             Verdict::NotYet => return true,
-            Verdict::Holds(holds) => self.end_test(test, number, holds),
+            Verdict::Holds(holds) => self.end_test(test.discriminates, number, holds),
             Verdict::Past => self.stop_at(LimitCause::Window, window),
         }
         self.far = self.far.max(told.far);
@@ -138,14 +109,14 @@ impl Parser {
     }
 
     // A test of this number holds, or doesn't: where it does, a discriminator resolves the innermost point.
-    fn end_test(&mut self, test: &PatternTest, number: u32, holds: bool)
-        ensures { Becomes self.old (at_outcome (tested test.now number holds (state_of self.old)) self.old.stack) self.new }
+    pub(crate) fn end_test(&mut self, discriminates: bool, number: u32, holds: bool)
+        ensures { Becomes self.old (at_outcome (tested discriminates number holds (state_of self.old)) self.old.stack) self.new }
     {
         if !holds {
-            self.fail(false_test(test, number));
+            self.fail(false_test(discriminates, number));
             return;
         }
-        if test.discriminates {
+        if discriminates {
             self.marks.resolve();
         }
         self.focus = Focus::Leave(End::Done);
@@ -153,10 +124,10 @@ impl Parser {
 }
 
 // Why a test of this number fails.
-fn false_test(test: &PatternTest, number: u32) -> ParseCause
-    ensures { result ≡ false_test test.now number }
+fn false_test(discriminates: bool, number: u32) -> ParseCause
+    ensures { result ≡ false_test discriminates number }
 {
-    if test.discriminates {
+    if discriminates {
         ParseCause::DiscriminatorFalse { test: number }
     } else {
         ParseCause::AssertionFalse { test: number }

@@ -50,6 +50,7 @@ impl Parser {
             text: self.text.count(),
             inside: self.inside,
             content,
+            variables: self.variables.mark(),
         })?;
         Ok(())
     }
@@ -260,6 +261,7 @@ impl Parser {
         self.region.set_content(mark.inside, mark.content);
         self.text.undo_to(mark.text);
         self.inside = mark.inside;
+        self.variables.undo_to(mark.variables);
     }
 }
 
@@ -309,7 +311,8 @@ pub(crate) fn parts_of(terms: &Terms, id: RowId) -> Option<Parts>
         Row::Repeat { .. } => None,
         Row::Optional { .. } => None,
         Row::Choice { .. } => None,
-        Row::Test { .. } => None,
+        Row::Statement { .. } => None,
+        Row::Concluded { .. } => None,
         Row::Hidden { .. } => None,
         Row::Separated { .. } => None,
     }

@@ -5,5 +5,4 @@ pub mod Follows
 pub mod Inside
 pub mod Walked
 pub mod Occurrences
-pub mod Numbered
 mod Texts

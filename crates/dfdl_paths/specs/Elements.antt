@@ -1,35 +1,9 @@
 -- The elements of a document as the steps of paths see them: their local names by numbers, and where each stands.
-use Rattle.std.specs.Prelude.{ℕ, suc, ◌+◌, ◌&&◌, Bool, true, false, nat_eq, nat_lt, if◌then◌else◌, List, [], ◌∷◌, map, Option, Some, None, slice_get, slice_index_or}
-use Rattle.std.specs.Str.{bytes_eq}
-use Rattle.dfdl_terms.specs.declared.row.Row.{Row}
-use Rattle.dfdl_terms.specs.declared.row.Row.TheVariants.{Elem}
+use Rattle.std.specs.Prelude.{ℕ, suc, ◌&&◌, Bool, true, false, nat_eq, nat_lt, if◌then◌else◌, List, Option, Some, None, slice_get, slice_index_or}
 use Rattle.dfdl_region.specs.declared.node.Node.{Node}
 use Rattle.dfdl_paths.specs.declared.place.Place.{Place}
 use Rattle.dfdl_paths.specs.declared.place.Place.TheVariants.{Above, At, Inside}
 use Rattle.dfdl_paths.specs.Numbers.{count_below}
-
--- the local name of the element whose row this is; no other row has one
-abbrev pub name_of : Row → Option (List ℕ)
-name_of (Elem name simple tried body) = Some name
-name_of _ = None
-
--- the number of a name among names of which the first has this number: that of the first that is the same
-abbrev pub number_from : ℕ → List (List ℕ) → List ℕ → Option ℕ
-number_from at [] name = None
-number_from at (first ∷ rest) name = if bytes_eq first name then Some at else number_from (at + 1) rest name
-
--- the number of a name, if there is one and the names have it
-abbrev pub number_by : List (List ℕ) → Option (List ℕ) → Option ℕ
-number_by names None = None
-number_by names (Some name) = number_from 0 names name
-
--- the number of the name of a row's element
-abbrev pub number_of : List (List ℕ) → Row → Option ℕ
-number_of names row = number_by names (name_of row)
-
--- those of all rows
-abbrev pub numbered : List (List ℕ) → List Row → List (Option ℕ)
-numbered names rows = map (number_of names) rows
 
 -- the number of the name of an element
 abbrev pub named_by : List (Option ℕ) → Option Node → Option ℕ

@@ -5,12 +5,12 @@ ghost use Rattle.dfdl_paths.specs.declared.place.Place.TheVariants.{At};
 ghost use Rattle.dfdl_paths.specs.Leads.{begins, follow, only_at};
 ghost use Rattle.dfdl_paths.specs.Spans.{LeadsNowhere, reached_by};
 
-use super::names::NameNumbers;
 use super::place::{Place, Start, begins};
 use super::reach::{Course, reaches};
 use super::walk::first_reach;
 use dfdl_expressions::{Path, Step};
 use dfdl_region::Node;
+use dfdl_terms::NameNumbers;
 
 /// The steps of a path that are left behind those that lead to one place, from that place on. There are none where the path leads
 /// nowhere.

@@ -6,13 +6,13 @@ ghost use Rattle.dfdl_paths.specs.Spans.{IsSpanOf, items_by, with_item, with_one
 ghost use Rattle.dfdl_paths.specs.Values.{found_of};
 
 use super::course::{course_of, has_item};
-use super::names::NameNumbers;
 use super::place::Start;
 use super::reach::Course;
 use super::span::span_of;
 use super::tree::{Span, one_if};
 use dfdl_expressions::Path;
 use dfdl_region::Node;
+use dfdl_terms::NameNumbers;
 use std::alloc::{AllocError, Global};
 
 /// How many items a path leads to, and which one where there is only one.

@@ -5,10 +5,10 @@ ghost use Rattle.dfdl_paths.specs.declared.place.Place.{Place as PlaceOf};
 ghost use Rattle.dfdl_paths.specs.Elements.{around, place_among};
 ghost use Rattle.dfdl_paths.specs.Leads.{after, only_at};
 
-use super::names::NameNumbers;
 use super::place::Place;
 use super::tree::{around, inside_of, is_child, one_if};
 use dfdl_region::Node;
+use dfdl_terms::NameNumbers;
 
 /// The place of an element, counted from 1, among those of a name that stand where it stands.
 pub(crate) fn place_among(names: &NameNumbers, nodes: &[Node], name: u32, number: u32) -> u64

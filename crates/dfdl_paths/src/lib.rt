@@ -8,7 +8,6 @@
 mod course;
 pub mod found;
 mod index;
-pub mod names;
 pub mod occurs;
 pub mod place;
 mod reach;
@@ -19,9 +18,8 @@ mod walk;
 
 pub use dfdl_expressions::{Path, Step};
 pub use dfdl_region::{Content, Node};
-pub use dfdl_terms::{Items, Terms};
+pub use dfdl_terms::{Items, NameNumbers, Terms};
 pub use found::{Found, count_items, items, only_item};
-pub use names::NameNumbers;
 pub use occurs::occurs_index;
 pub use place::{Place, Start};
 pub use value::value_of_item;

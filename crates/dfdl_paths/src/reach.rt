@@ -6,12 +6,12 @@ ghost use Rattle.dfdl_paths.specs.Leads.{after, next_index, up};
 ghost use Rattle.dfdl_paths.specs.Spans.{behind_all, reached_first};
 
 use super::index::place_among;
-use super::names::NameNumbers;
 use super::place::Place;
 use super::tree::{around, is_named};
 use super::walk::{index_at, step_at, uses};
 use dfdl_expressions::Step;
 use dfdl_region::Node;
+use dfdl_terms::NameNumbers;
 
 /// Steps from one place over the elements of a document, with the places that their indexes name.
 #[derive(Clone, Copy)]

@@ -4,9 +4,9 @@ ghost use Rattle.dfdl_paths.specs.Numbers.{count_if};
 ghost use Rattle.dfdl_paths.specs.Spans.{IsAround};
 ghost use Rattle.dfdl_paths.specs.Elements.{around, around_of, is_child, is_named, is_number};
 
-use super::names::NameNumbers;
 use super::place::Place;
 use dfdl_region::Node;
+use dfdl_terms::NameNumbers;
 
 /// Where an element stands.
 pub(crate) fn around(nodes: &[Node], number: u32) -> Place

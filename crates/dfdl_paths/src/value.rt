@@ -4,10 +4,10 @@ ghost use Rattle.dfdl_paths.specs.Leads.{items};
 ghost use Rattle.dfdl_paths.specs.Values.{content_value, found_of, found_value, node_value, octets_value, part_at, text_value};
 
 use super::found::{Found, only_item};
-use super::names::NameNumbers;
 use super::place::Start;
 use dfdl_expressions::Path;
 use dfdl_region::{Content, Node};
+use dfdl_terms::NameNumbers;
 use dfdl_value::{ByteValue, TextValue, Value};
 use std::alloc::{AllocError, Global};
 use std::str;

@@ -6,11 +6,11 @@ ghost use Rattle.dfdl_paths.specs.Leads.{after, follow, left_behind, only_at, ne
 ghost use Rattle.dfdl_paths.specs.Spans.{IsNext, IsReach, LeadsNowhere, next_in, outer_of};
 
 use super::index::child_at;
-use super::names::NameNumbers;
 use super::place::Place;
 use super::tree::around;
 use dfdl_expressions::Step;
 use dfdl_region::Node;
+use dfdl_terms::NameNumbers;
 
 /// Where a step leads.
 #[derive(Debug, Clone, Copy, PartialEq, Eq)]

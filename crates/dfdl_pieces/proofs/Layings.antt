@@ -3,6 +3,7 @@ use Rattle.std.proofs.Common.{◌≡◌, ℕ, ◌+◌, ◌<◌, Bool, List, [], 
 use Rattle.std.proofs.lemmas.List.Elements.{All-head, All-tail}
 use Rattle.dfdl_forms.specs.declared.simple.Simple.{Simple as SimpleType}
 use Rattle.dfdl_terms.specs.declared.representations.Representations.{Representations}
+use Rattle.dfdl_terms.specs.declared.statement.Statements.{Statements}
 use Rattle.dfdl_terms.specs.Rows.{Table}
 use Rattle.dfdl_terms.specs.declared.delimiters.Delimiter.{Delimiter}
 use Rattle.dfdl_terms.specs.declared.prefix.Prefix.{Prefix}
@@ -27,14 +28,14 @@ turn_same bound f g same (row ∷ rows) within around more =
     ∙ ap (g row around) (turn_same bound f g same rows (All-tail (λ c. c < bound) row rows within) around more)
 
 module _ (t : Table) (row : ℕ) (around : Names) (more : Laying) where
-  pub laid_simple : (name : List ℕ) (kind : SimpleType) (tried : Representations) (body : ℕ) → slice_get t.rows row ≡ Some (Elem name (Some kind) tried body)
+  pub laid_simple : (name : List ℕ) (kind : SimpleType) (tried : Representations) (behind : Statements) (body : ℕ) → slice_get t.rows row ≡ Some (Elem name (Some kind) tried behind body)
       → laying t row around more ≡ Takes (λ event. value_laying (name ∷ around) (form_at t body) more (value_for row event))
-  laid_simple name kind tried body is = ap (λ (h : Names → Laying → Laying). h around more) (row_is (laying_by t) (λ a m. m) t.rows row (Some (Elem name (Some kind) tried body)) is)
+  laid_simple name kind tried behind body is = ap (λ (h : Names → Laying → Laying). h around more) (row_is (laying_by t) (λ a m. m) t.rows row (Some (Elem name (Some kind) tried behind body)) is)
 
-  pub laid_complex : (name : List ℕ) (tried : Representations) (body : ℕ) → slice_get t.rows row ≡ Some (Elem name None tried body) → body < row
+  pub laid_complex : (name : List ℕ) (tried : Representations) (behind : Statements) (body : ℕ) → slice_get t.rows row ≡ Some (Elem name None tried behind body) → body < row
       → laying t row around more ≡ Takes (λ event. begun_laying (name ∷ around) (laying t body (name ∷ around) (Takes (λ end. more))) (begins row event))
-  laid_complex name tried body is less =
-      ap (λ (h : Names → Laying → Laying). h around more) (row_is (laying_by t) (λ a m. m) t.rows row (Some (Elem name None tried body)) is)
+  laid_complex name tried behind body is less =
+      ap (λ (h : Names → Laying → Laying). h around more) (row_is (laying_by t) (λ a m. m) t.rows row (Some (Elem name None tried behind body)) is)
       ∙ ap (λ (h : Names → Laying → Laying). Takes (λ event. begun_laying (name ∷ around) (h (name ∷ around) (Takes (λ end. more))) (begins row event)))
       (below_is (laying_by t) (λ a m. m) t.rows row body less)
 
@@ -121,6 +122,6 @@ module _ (t : Table) (row : ℕ) (tasks now : List Task) where
       → steps_left t now < steps_of t row + steps_left t tasks
   repeat_less count body is less are = rw are (omega (arith, repeat_steps t row count body is less))
 
-  pub complex_less : (name : List ℕ) (tried : Representations) (body : ℕ) → slice_get t.rows row ≡ Some (Elem name None tried body) → body < row
+  pub complex_less : (name : List ℕ) (tried : Representations) (behind : Statements) (body : ℕ) → slice_get t.rows row ≡ Some (Elem name None tried behind body) → body < row
       → steps_left t now < 2 + steps_of t body + steps_left t tasks → steps_left t now < steps_of t row + steps_left t tasks
-  complex_less name tried body is less few = omega (arith, elem_steps t row name None tried body is less, few)
+  complex_less name tried behind body is less few = omega (arith, elem_steps t row name None tried behind body is less, few)

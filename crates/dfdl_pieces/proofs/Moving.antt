@@ -11,6 +11,7 @@ use Rattle.dfdl_forms.specs.declared.simple.Simple.{Simple as SimpleType}
 use Rattle.dfdl_value.specs.Types.{IsOfType}
 use Rattle.dfdl_value.specs.declared.value.Value.{Value}
 use Rattle.dfdl_terms.specs.declared.representations.Representations.{Representations}
+use Rattle.dfdl_terms.specs.declared.statement.Statements.{Statements}
 use Rattle.dfdl_terms.specs.Rows.{Table}
 use Rattle.dfdl_terms.specs.declared.event.Event.{Event}
 use Rattle.dfdl_terms.specs.declared.event.Event.TheVariants.{Start, Simple, Nil, End}
@@ -73,34 +74,34 @@ typed_at : (t : Table) (events : List Event) (at : ℕ) (event : Event) → All 
 typed_at t events at event all is =
     subst (IsTyped t) (get_or_from_slice_get events at event event is) (all at event (slice_get_within events at event is))
 
-value_here : (t : Table) (row elem : ℕ) (value v : Value) (name : List ℕ) (kind : SimpleType) (tried : Representations) (body : ℕ) → slice_get t.rows row ≡ Some (Elem name (Some kind) tried body)
+value_here : (t : Table) (row elem : ℕ) (value v : Value) (name : List ℕ) (kind : SimpleType) (tried : Representations) (behind : Statements) (body : ℕ) → slice_get t.rows row ≡ Some (Elem name (Some kind) tried behind body)
     → IsTyped t (Simple elem value) → Some v ≡ value_for row (Some (Simple elem value)) → IsOfType kind v
-value_here t row elem value v name kind tried body there typed is =
+value_here t row elem value v name kind tried behind body there typed is =
     (elim (cases_Bool (nat_eq elem row)) as (λ _. Some v ≡ value_for row (Some (Simple elem value)) → IsOfType kind v) [
       | inl same ↦ rw same (λ e. let v_is : value ≡ v = cc in let row_is : elem ≡ row = eqb-true elem row same in
-          subst (λ (w : Value). IsOfType kind w) v_is (typed name kind tried body (ap (slice_get t.rows) row_is ∙ there)))
+          subst (λ (w : Value). IsOfType kind w) v_is (typed name kind tried behind body (ap (slice_get t.rows) row_is ∙ there)))
       | inr other ↦ rw other (λ e. absurd (cc))
     ]) is
 
-value_in : (t : Table) (row : ℕ) (o : Option Event) (v : Value) (name : List ℕ) (kind : SimpleType) (tried : Representations) (body : ℕ) → slice_get t.rows row ≡ Some (Elem name (Some kind) tried body)
+value_in : (t : Table) (row : ℕ) (o : Option Event) (v : Value) (name : List ℕ) (kind : SimpleType) (tried : Representations) (behind : Statements) (body : ℕ) → slice_get t.rows row ≡ Some (Elem name (Some kind) tried behind body)
     → ((event : Event) → o ≡ Some event → IsTyped t event) → Some v ≡ value_for row o → IsOfType kind v
-value_in t row None v name kind tried body there typed is = absurd (cc)
-value_in t row (Some (Start elem)) v name kind tried body there typed is = absurd (cc)
-value_in t row (Some (Nil elem)) v name kind tried body there typed is = absurd (cc)
-value_in t row (Some End) v name kind tried body there typed is = absurd (cc)
-value_in t row (Some (Simple elem value)) v name kind tried body there typed is = value_here t row elem value v name kind tried body there (typed (Simple elem value) refl) is
+value_in t row None v name kind tried behind body there typed is = absurd (cc)
+value_in t row (Some (Start elem)) v name kind tried behind body there typed is = absurd (cc)
+value_in t row (Some (Nil elem)) v name kind tried behind body there typed is = absurd (cc)
+value_in t row (Some End) v name kind tried behind body there typed is = absurd (cc)
+value_in t row (Some (Simple elem value)) v name kind tried behind body there typed is = value_here t row elem value v name kind tried behind body there (typed (Simple elem value) refl) is
 
 form_kind : (kind : SimpleType) (form : IntForm) (o : Option IntForm) → Some form ≡ o → IsWholeForm kind o → form.kind ≡ kind
 form_kind kind form None is whole = absurd (cc)
 form_kind kind form (Some other) is whole = let same : form ≡ other = cc in ap (λ f. f.kind) same ∙ whole.0
 
 -- the value that is laid is of the form's type
-pub value_of_form : (t : Table) (row : ℕ) (events : List Event) (at : ℕ) (o : Option Event) (v : Value) (form : IntForm) (name : List ℕ) (kind : SimpleType) (tried : Representations) (body : ℕ)
-    → slice_get t.rows row ≡ Some (Elem name (Some kind) tried body) → All (IsTyped t) events → AreWholeFields t → o ≡ slice_get events at → Some v ≡ value_for row o
+pub value_of_form : (t : Table) (row : ℕ) (events : List Event) (at : ℕ) (o : Option Event) (v : Value) (form : IntForm) (name : List ℕ) (kind : SimpleType) (tried : Representations) (behind : Statements) (body : ℕ)
+    → slice_get t.rows row ≡ Some (Elem name (Some kind) tried behind body) → All (IsTyped t) events → AreWholeFields t → o ≡ slice_get events at → Some v ≡ value_for row o
     → Some form ≡ form_at t body → IsOfType form.kind v
-value_of_form t row events at o v form name kind tried body there typed whole o_is is form_is =
-    subst (λ (k : SimpleType). IsOfType k v) (sym (form_kind kind form (form_at t body) form_is (whole row name kind tried body there)))
-    (value_in t row o v name kind tried body there (λ event event_is. typed_at t events at event typed (sym o_is ∙ event_is)) is)
+value_of_form t row events at o v form name kind tried behind body there typed whole o_is is form_is =
+    subst (λ (k : SimpleType). IsOfType k v) (sym (form_kind kind form (form_at t body) form_is (whole row name kind tried behind body there)))
+    (value_in t row o v name kind tried behind body there (λ event event_is. typed_at t events at event typed (sym o_is ∙ event_is)) is)
 
 -- what follows where a call succeeds
 pub if_ok : {A E : Type 0} (r : Result A E) (P Q : A → Type 0) → IfOk r P → ((x : A) → P x → Q x) → IfOk r Q

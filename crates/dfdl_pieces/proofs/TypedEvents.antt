@@ -5,6 +5,7 @@ use Rattle.dfdl_forms.specs.declared.simple.Simple.{Simple as SimpleType}
 use Rattle.dfdl_value.specs.Types.{IsOfType}
 use Rattle.dfdl_value.specs.declared.value.Value.{Value}
 use Rattle.dfdl_terms.specs.declared.representations.Representations.{Representations}
+use Rattle.dfdl_terms.specs.declared.statement.Statements.{Statements}
 use Rattle.dfdl_terms.specs.Rows.{Table}
 use Rattle.dfdl_terms.specs.declared.event.Event.{Event}
 use Rattle.dfdl_terms.specs.declared.event.Event.TheVariants.{Start, Simple, End}
@@ -12,16 +13,16 @@ use Rattle.dfdl_terms.specs.declared.row.Row.TheVariants.{Elem}
 use Rattle.dfdl_json.specs.Fitting.{IsElement, AreInside, simple, complex, nothing, absent, present}
 use Rattle.dfdl_pieces.specs.Unparsing.{IsTyped}
 
-value_typed : (t : Table) (row : ℕ) (name : List ℕ) (kind : SimpleType) (tried : Representations) (body : ℕ) (value : Value) → slice_get t.rows row ≡ Some (Elem name (Some kind) tried body)
+value_typed : (t : Table) (row : ℕ) (name : List ℕ) (kind : SimpleType) (tried : Representations) (behind : Statements) (body : ℕ) (value : Value) → slice_get t.rows row ≡ Some (Elem name (Some kind) tried behind body)
     → IsOfType kind value → IsTyped t (Simple row value)
-value_typed t row name kind tried body value is typed = λ other_name other_kind other_tried other_body other_is.
+value_typed t row name kind tried behind body value is typed = λ other_name other_kind other_tried other_behind other_body other_is.
     let same : kind ≡ other_kind = cc in subst (λ (k : SimpleType). IsOfType k value) same typed
 
 mutual
   pub element_typed : (t : Table) (row : ℕ) (events : List Event) → IsElement t row events → All (IsTyped t) events
-  element_typed t _ _ (simple row name kind tried body value is typed) =
-      All-cons (IsTyped t) (Simple row value) [] (value_typed t row name kind tried body value is typed) (All-nil (IsTyped t))
-  element_typed t _ _ (complex row name tried body inside is fits) =
+  element_typed t _ _ (simple row name kind tried behind body value is typed) =
+      All-cons (IsTyped t) (Simple row value) [] (value_typed t row name kind tried behind body value is typed) (All-nil (IsTyped t))
+  element_typed t _ _ (complex row name tried behind body inside is fits) =
       All-cons (IsTyped t) (Start row) (inside ++ End ∷ []) tt
       (All-append (IsTyped t) inside (End ∷ []) (inside_typed t _ inside fits) (All-cons (IsTyped t) End [] tt (All-nil (IsTyped t))))
 

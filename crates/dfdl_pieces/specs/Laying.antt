@@ -8,7 +8,7 @@ use Rattle.dfdl_terms.specs.declared.event.Event.TheVariants.{Start, Simple, Nil
 use Rattle.dfdl_terms.specs.declared.row.Primitive.{Primitive}
 use Rattle.dfdl_terms.specs.declared.row.Primitive.TheVariants.{Integer, Packed, Truth, Octets, Text, NilOctets, Default, NilValues, Pattern}
 use Rattle.dfdl_terms.specs.declared.row.Row.{Row}
-use Rattle.dfdl_terms.specs.declared.row.Row.TheVariants.{Leaf, Elem, Group, Skip, Align, Initiator, Terminator, Separator, Scope, Boxed, PrefixedLeaf, PrefixedBox, Repeat, Optional, Choice, Test, Hidden, Separated}
+use Rattle.dfdl_terms.specs.declared.row.Row.TheVariants.{Leaf, Elem, Group, Skip, Align, Initiator, Terminator, Separator, Scope, Boxed, PrefixedLeaf, PrefixedBox, Repeat, Optional, Choice, Statement, Concluded, Hidden, Separated}
 use Rattle.dfdl_terms.specs.Rows.{Table}
 use Rattle.dfdl_json.specs.ByRows.{by_rows}
 use Rattle.dfdl_json.specs.Children.{root_row}
@@ -42,7 +42,7 @@ integer_form (Pattern form) = None
 -- the form of the binary integer that a row writes
 abbrev pub form_in : Table → Option Row → Option IntForm
 form_in t (Some (Leaf prim)) = option_and_then integer_form (slice_get t.primitives prim)
-form_in t (Some (Elem name simple tried body)) = None
+form_in t (Some (Elem name simple tried behind body)) = None
 form_in t (Some (Group children)) = None
 form_in t (Some (Skip bits)) = None
 form_in t (Some (Align bits)) = None
@@ -56,7 +56,8 @@ form_in t (Some (PrefixedBox prefix body)) = None
 form_in t (Some (Repeat count body)) = None
 form_in t (Some (Optional most item initiated body)) = None
 form_in t (Some (Choice branches initiated)) = None
-form_in t (Some (Test test)) = None
+form_in t (Some (Statement statement)) = None
+form_in t (Some (Concluded behind body)) = None
 form_in t (Some (Hidden body)) = None
 form_in t (Some (Separated policy position initiated slots)) = None
 form_in t None = None
@@ -103,9 +104,9 @@ in_turn inside (row ∷ rows) around more = inside row around (in_turn inside ro
 -- how a row in elements of these names is laid before others, where `inside` says it of the rows below; a complex
 -- element takes the event of its end behind all that is inside
 abbrev pub laying_by : Table → (ℕ → Names → Laying → Laying) → ℕ → Option Row → Names → Laying → Laying
-laying_by t inside row (Some (Elem name (Some kind) tried body)) around more =
+laying_by t inside row (Some (Elem name (Some kind) tried behind body)) around more =
     Takes (λ event. value_laying (name ∷ around) (form_at t body) more (value_for row event))
-laying_by t inside row (Some (Elem name None tried body)) around more =
+laying_by t inside row (Some (Elem name None tried behind body)) around more =
     Takes (λ event. begun_laying (name ∷ around) (inside body (name ∷ around) (Takes (λ end. more))) (begins row event))
 laying_by t inside row (Some (Group children)) around more = in_turn inside children around more
 laying_by t inside row (Some (Leaf prim)) around more = more
@@ -121,7 +122,8 @@ laying_by t inside row (Some (PrefixedBox prefix body)) around more = more
 laying_by t inside row (Some (Repeat count body)) around more = inside body around more
 laying_by t inside row (Some (Optional most item initiated body)) around more = more
 laying_by t inside row (Some (Choice branches initiated)) around more = more
-laying_by t inside row (Some (Test test)) around more = more
+laying_by t inside row (Some (Statement statement)) around more = more
+laying_by t inside row (Some (Concluded behind body)) around more = more
 laying_by t inside row (Some (Hidden body)) around more = more
 laying_by t inside row (Some (Separated policy position initiated slots)) around more = more
 laying_by t inside row None around more = more

@@ -3,6 +3,7 @@ use Rattle.std.specs.Prelude.{◌≡◌, ℕ, ◌<◌, List, [], ◌∷◌, ◌+
 use Rattle.dfdl_forms.specs.declared.simple.Simple.{Simple as SimpleType}
 use Rattle.dfdl_value.specs.Types.{IsOfType}
 use Rattle.dfdl_terms.specs.declared.representations.Representations.{Representations}
+use Rattle.dfdl_terms.specs.declared.statement.Statements.{Statements}
 use Rattle.dfdl_terms.specs.Rows.{Table}
 use Rattle.dfdl_terms.specs.declared.event.Event.{Event}
 use Rattle.dfdl_terms.specs.declared.event.Event.TheVariants.{Start, Simple, Nil, End}
@@ -51,7 +52,8 @@ IsLess t steps new (Some path) = Unit {0}
 
 -- the value of a simple element is one of its type
 abbrev pub IsTyped : Table → Event → Type 0
-IsTyped t (Simple row value) = (name : List ℕ) (kind : SimpleType) (tried : Representations) (body : ℕ) → slice_get t.rows row ≡ Some (Elem name (Some kind) tried body) → IsOfType kind value
+IsTyped t (Simple row value) = (name : List ℕ) (kind : SimpleType) (tried : Representations) (behind : Statements) (body : ℕ)
+    → slice_get t.rows row ≡ Some (Elem name (Some kind) tried behind body) → IsOfType kind value
 IsTyped t (Start row) = Unit {0}
 IsTyped t (Nil row) = Unit {0}
 IsTyped t End = Unit {0}

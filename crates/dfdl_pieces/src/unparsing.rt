@@ -4,6 +4,7 @@ ghost use Rattle.dfdl_json.specs.Paths.{path_of};
 ghost use Rattle.dfdl_terms.specs.Rows.{HasPlainRows};
 ghost use Rattle.dfdl_terms.specs.declared.representations.Representations.{Representations};
 ghost use Rattle.dfdl_terms.specs.declared.row.Row.TheVariants.{Elem};
+ghost use Rattle.dfdl_terms.specs.declared.statement.Statements.{Statements};
 ghost use Rattle.dfdl_json.specs.Fitting.{Fits};
 ghost use Rattle.dfdl_json.specs.Steps.{steps_of};
 ghost use Rattle.dfdl_pieces.specs.Laying as lays;
@@ -180,7 +181,8 @@ impl<'t> Unparser<'t> {
             Some(Row::Repeat { body, .. }) => self.lay_group(&[*body]),
             Some(Row::Optional { .. }) => Ok(None),
             Some(Row::Choice { .. }) => Ok(None),
-            Some(Row::Test { .. }) => Ok(None),
+            Some(Row::Statement { .. }) => Ok(None),
+            Some(Row::Concluded { .. }) => Ok(None),
             Some(Row::Hidden { .. }) => Ok(None),
             Some(Row::Separated { .. }) => Ok(None),
             None => Ok(None),
@@ -214,7 +216,8 @@ impl<'t> Unparser<'t> {
     ) -> Result<Option<TextValue>, AllocError>
         requires whole { AreWholeFields terms.now }
         requires typed { All (IsTyped terms.now) events.now }
-        requires row { (tried : Representations) × (slice_get terms.now.rows row ≡ Some (Elem name.now (Some kind) tried body)) }
+        requires row { (tried : Representations) × (behind : Statements)
+            × (slice_get terms.now.rows row ≡ Some (Elem name.now (Some kind) tried behind body)) }
         ensures moves { IfOk result (λ missing. (more : Laying) → Moves events.now self.old
             (Takes (λ event. lays.value_laying (name.now ∷ self.old.around) (lays.form_at terms.now body) more (lays.value_for row event)))
             self.new more missing) }

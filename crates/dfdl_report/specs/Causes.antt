@@ -2,7 +2,10 @@
 use Rattle.std.specs.Prelude.{ℕ, List, codes}
 use Rattle.dfdl_report.specs.declared.cause.ParseCause.{ParseCause}
 use Rattle.dfdl_report.specs.declared.cause.ParseCause.TheVariants.{InitiatorMissing, TerminatorMissing, SeparatorMissing, DataEnds, BadCharacter, NotANumber, BadNibble}
+use Rattle.dfdl_report.specs.declared.cause.ParseCause.TheVariants.{NoDispatchBranch, NegativeCount, ExpressionFault}
 use Rattle.dfdl_report.specs.declared.cause.ParseCause.TheVariants.{LengthOutOfRange, PastType, AssertionFalse, DiscriminatorFalse, NoBranch, EmptyTrailingSlot, UnknownBoolean, RequiredEmpty, NotFilled}
+use Rattle.dfdl_report.specs.declared.cause.VariableCause.{VariableCause}
+use Rattle.dfdl_report.specs.declared.cause.VariableCause.TheVariants.{SetTwice, SetAfterRead}
 use Rattle.dfdl_report.specs.declared.cause.UnparseCause.{UnparseCause}
 use Rattle.dfdl_report.specs.declared.cause.UnparseCause.TheVariants.{WrongOccurrences}
 use Rattle.dfdl_report.specs.declared.cause.SchemaCause.{SchemaCause}
@@ -11,6 +14,7 @@ use Rattle.dfdl_report.specs.declared.cause.SchemaCause.TheVariants.{UnknownAnno
 use Rattle.dfdl_report.specs.declared.cause.SchemaCause.TheVariants.{LengthUnits, ConstantLength, PrefixType, PrefixLength, PatternRefused, OrdersApart, SecondBitOrder}
 use Rattle.dfdl_report.specs.declared.cause.SchemaCause.TheVariants.{EncodingNotAllowed, Alignment, NumberPattern, SignCodes, BooleanRepresentations, PadCharacter, NilNotAllowed}
 use Rattle.dfdl_report.specs.declared.cause.SchemaCause.TheVariants.{DefaultNotAValue, UnboundedElement, OccurrenceBounds, TestsTogether, NoInitiator, ElementTwice, EscapeScheme}
+use Rattle.dfdl_report.specs.declared.cause.SchemaCause.TheVariants.{ExpressionMalformed, ExpressionType, PathNowhere, VariableMalformed, BranchKey, CalculationNotAllowed}
 use Rattle.dfdl_report.specs.declared.cause.DocCause.{DocCause}
 use Rattle.dfdl_report.specs.declared.cause.DocCause.TheVariants.{NotUtf8, CharacterNotAllowed, Malformed, EndTagMismatch, AttributeTwice}
 use Rattle.dfdl_report.specs.declared.cause.DocCause.TheVariants.{UnknownReference, PrefixNotDeclared, DocumentType, EncodingRefused, OneRoot, TooDeep, DocumentEnds}
@@ -33,6 +37,9 @@ parse_number PastType = 9
 parse_number (AssertionFalse test) = 10
 parse_number (DiscriminatorFalse test) = 11
 parse_number NoBranch = 12
+parse_number NoDispatchBranch = 13
+parse_number NegativeCount = 14
+parse_number (ExpressionFault fault) = 15
 parse_number EmptyTrailingSlot = 16
 parse_number UnknownBoolean = 17
 parse_number RequiredEmpty = 18
@@ -52,10 +59,23 @@ parse_text PastType = codes "value past its type"
 parse_text (AssertionFalse test) = codes "assertion false"
 parse_text (DiscriminatorFalse test) = codes "discriminator false"
 parse_text NoBranch = codes "no branch"
+parse_text NoDispatchBranch = codes "no dispatch branch"
+parse_text NegativeCount = codes "occurrence count negative"
+parse_text (ExpressionFault fault) = codes "expression fault"
 parse_text EmptyTrailingSlot = codes "empty trailing slot"
 parse_text UnknownBoolean = codes "unknown boolean"
 parse_text RequiredEmpty = codes "required element empty"
 parse_text NotFilled = codes "content does not fill its box"
+
+-- settings of variables that can't be, V
+abbrev pub variable_number : VariableCause → ℕ
+variable_number SetTwice = 1
+variable_number SetAfterRead = 2
+
+-- what such a setting is told as
+abbrev pub variable_text : VariableCause → List ℕ
+variable_text SetTwice = codes "variable set twice"
+variable_text SetAfterRead = codes "variable set after it was read"
 
 -- unparse errors, U
 abbrev pub unparse_number : UnparseCause → ℕ
@@ -100,8 +120,14 @@ schema_number DefaultNotAValue = 30
 schema_number UnboundedElement = 31
 schema_number OccurrenceBounds = 32
 schema_number TestsTogether = 33
+schema_number ExpressionMalformed = 34
+schema_number ExpressionType = 35
+schema_number PathNowhere = 36
+schema_number VariableMalformed = 37
+schema_number BranchKey = 38
 schema_number NoInitiator = 39
 schema_number ElementTwice = 40
+schema_number CalculationNotAllowed = 41
 schema_number EscapeScheme = 42
 
 -- what a refusal of a schema is told as
@@ -139,8 +165,14 @@ schema_text DefaultNotAValue = codes "default is not a value"
 schema_text UnboundedElement = codes "unbounded element not allowed"
 schema_text OccurrenceBounds = codes "occurrence bounds not allowed"
 schema_text TestsTogether = codes "assert and discriminator together"
+schema_text ExpressionMalformed = codes "expression malformed"
+schema_text ExpressionType = codes "expression type does not fit"
+schema_text PathNowhere = codes "path leads nowhere"
+schema_text VariableMalformed = codes "variable malformed"
+schema_text BranchKey = codes "branch key missing or twice"
 schema_text NoInitiator = codes "initiator missing in initiated content"
 schema_text ElementTwice = codes "element name twice"
+schema_text CalculationNotAllowed = codes "calculated value not allowed here"
 schema_text EscapeScheme = codes "escape scheme malformed"
 
 -- refusals of documents, X

@@ -2,6 +2,7 @@
 -- it is, so a file name with a line feed in it makes two lines.
 use Rattle.std.specs.Prelude.{ℕ, List, ◌++◌, codes, decimal}
 use Rattle.dfdl_report.specs.declared.cause.ParseCause.{ParseCause}
+use Rattle.dfdl_report.specs.declared.cause.VariableCause.{VariableCause}
 use Rattle.dfdl_report.specs.declared.cause.UnparseCause.{UnparseCause}
 use Rattle.dfdl_report.specs.declared.cause.SchemaCause.{SchemaCause}
 use Rattle.dfdl_report.specs.declared.cause.DocCause.{DocCause}
@@ -9,7 +10,7 @@ use Rattle.dfdl_report.specs.declared.cause.InfosetCause.{InfosetCause}
 use Rattle.dfdl_report.specs.declared.cause.LimitCause.{LimitCause}
 use Rattle.dfdl_report.specs.Causes.{document_number, document_text}
 use Rattle.dfdl_report.specs.Causes.{infoset_number, infoset_text, limit_number, parse_number, parse_text}
-use Rattle.dfdl_report.specs.Causes.{schema_number, schema_text, unparse_number, unparse_text}
+use Rattle.dfdl_report.specs.Causes.{schema_number, schema_text, unparse_number, unparse_text, variable_number, variable_text}
 
 -- a text, and the end of its line
 abbrev pub ended : List ℕ → List ℕ
@@ -26,6 +27,18 @@ abbrev pub test_line : ParseCause → ℕ → List ℕ → List ℕ → List ℕ
 test_line cause bit path message =
     codes "error P" ++ (decimal (parse_number cause) ++ (codes " at bit " ++ (decimal bit ++ (codes " in "
     ++ (path ++ (codes ": " ++ (parse_text cause ++ (codes ": " ++ ended message))))))))
+
+-- an expression at this bit, in the element of this path, that has no value for the reason of a number
+abbrev pub fault_line : ParseCause → ℕ → List ℕ → ℕ → List ℕ
+fault_line cause bit path fault =
+    codes "error P" ++ (decimal (parse_number cause) ++ (codes " at bit " ++ (decimal bit ++ (codes " in "
+    ++ (path ++ (codes ": " ++ (parse_text cause ++ (codes " (E" ++ (decimal fault ++ codes ")\n")))))))))
+
+-- a variable that is set at this bit, in the element of this path, and can't be
+abbrev pub variable_line : VariableCause → ℕ → List ℕ → List ℕ
+variable_line cause bit path =
+    codes "error V" ++ (decimal (variable_number cause) ++ (codes " at bit " ++ (decimal bit ++ (codes " in "
+    ++ (path ++ (codes ": " ++ ended (variable_text cause)))))))
 
 -- an unparse error in the element of this path
 abbrev pub unparse_line : UnparseCause → List ℕ → List ℕ

@@ -3,7 +3,7 @@ ghost use Rattle.std.specs.Prelude.{◌≡◌};
 ghost use Rattle.dfdl_report.specs.Causes.{document_number, document_text};
 ghost use Rattle.dfdl_report.specs.Causes.{infoset_number, infoset_text, limit_number};
 ghost use Rattle.dfdl_report.specs.Causes.{parse_number, parse_text, schema_number, schema_text};
-ghost use Rattle.dfdl_report.specs.Causes.{unparse_number, unparse_text};
+ghost use Rattle.dfdl_report.specs.Causes.{unparse_number, unparse_text, variable_number, variable_text};
 
 /// Why parsing failed: the numbers P of processing errors ('Parsing Algorithm').
 #[derive(Debug, Clone, Copy, PartialEq, Eq)]
@@ -32,6 +32,12 @@ pub enum ParseCause {
     DiscriminatorFalse { test: u32 },
     /// Each branch of a choice failed.
     NoBranch,
+    /// No branch of a choice has the key that was calculated.
+    NoDispatchBranch,
+    /// A calculated number of occurrences that is below 0.
+    NegativeCount,
+    /// An expression has no value, for the reason of this number.
+    ExpressionFault { fault: u8 },
     /// A slot at the end of a separated group that is empty, where none may be.
     EmptyTrailingSlot,
     /// A binary boolean whose number is neither that of true nor that of false.
@@ -40,6 +46,15 @@ pub enum ParseCause {
     RequiredEmpty,
     /// A box that is no whole number of bytes, of content that needs these.
     NotFilled,
+}
+
+/// What is wrong with the setting of a variable while data is parsed: the numbers V ('DFDL Expression Language', on variables).
+#[derive(Debug, Clone, Copy, PartialEq, Eq)]
+pub enum VariableCause {
+    /// Its instance was set before.
+    SetTwice,
+    /// Its instance was read before.
+    SetAfterRead,
 }
 
 /// Why unparsing failed: the numbers U of unparse errors ('DFDL Processing Introduction').
@@ -118,10 +133,22 @@ pub enum SchemaCause {
     OccurrenceBounds,
     /// A component with a discriminator and another test.
     TestsTogether,
+    /// A text that is no expression.
+    ExpressionMalformed,
+    /// An expression whose types don't fit.
+    ExpressionType,
+    /// A path of an expression that leads to no declared element.
+    PathNowhere,
+    /// A variable whose type isn't carried, a value that it can't have, or a name that no variable has.
+    VariableMalformed,
+    /// A branch of a choice that has no key, or that of an earlier branch.
+    BranchKey,
     /// A child without an initiator, in a group whose initiators tell what stands there.
     NoInitiator,
     /// An element has the name of an earlier one of its group.
     ElementTwice,
+    /// A calculated value where none may stand.
+    CalculationNotAllowed,
     /// An escape scheme that lacks a character of its kind, or has something else than one where one stands.
     EscapeScheme,
 }
@@ -216,6 +243,9 @@ impl ParseCause {
             ParseCause::AssertionFalse { .. } => 10,
             ParseCause::DiscriminatorFalse { .. } => 11,
             ParseCause::NoBranch => 12,
+            ParseCause::NoDispatchBranch => 13,
+            ParseCause::NegativeCount => 14,
+            ParseCause::ExpressionFault { .. } => 15,
             ParseCause::EmptyTrailingSlot => 16,
             ParseCause::UnknownBoolean => 17,
             ParseCause::RequiredEmpty => 18,
@@ -239,10 +269,34 @@ impl ParseCause {
             ParseCause::AssertionFalse { .. } => "assertion false",
             ParseCause::DiscriminatorFalse { .. } => "discriminator false",
             ParseCause::NoBranch => "no branch",
+            ParseCause::NoDispatchBranch => "no dispatch branch",
+            ParseCause::NegativeCount => "occurrence count negative",
+            ParseCause::ExpressionFault { .. } => "expression fault",
             ParseCause::EmptyTrailingSlot => "empty trailing slot",
             ParseCause::UnknownBoolean => "unknown boolean",
             ParseCause::RequiredEmpty => "required element empty",
             ParseCause::NotFilled => "content does not fill its box",
+        }
+    }
+}
+
+impl VariableCause {
+    /// The number that follows the V.
+    pub fn number(&self) -> u8
+        ensures { result ≡ variable_number self.now }
+    {
+        match self {
+            VariableCause::SetTwice => 1,
+            VariableCause::SetAfterRead => 2,
+        }
+    }
+
+    pub fn text(&self) -> &'static str
+        ensures { result.now ≡ variable_text self.now }
+    {
+        match self {
+            VariableCause::SetTwice => "variable set twice",
+            VariableCause::SetAfterRead => "variable set after it was read",
         }
     }
 }
@@ -305,8 +359,14 @@ impl SchemaCause {
             SchemaCause::UnboundedElement => 31,
             SchemaCause::OccurrenceBounds => 32,
             SchemaCause::TestsTogether => 33,
+            SchemaCause::ExpressionMalformed => 34,
+            SchemaCause::ExpressionType => 35,
+            SchemaCause::PathNowhere => 36,
+            SchemaCause::VariableMalformed => 37,
+            SchemaCause::BranchKey => 38,
             SchemaCause::NoInitiator => 39,
             SchemaCause::ElementTwice => 40,
+            SchemaCause::CalculationNotAllowed => 41,
             SchemaCause::EscapeScheme => 42,
         }
     }
@@ -348,8 +408,14 @@ impl SchemaCause {
             SchemaCause::UnboundedElement => "unbounded element not allowed",
             SchemaCause::OccurrenceBounds => "occurrence bounds not allowed",
             SchemaCause::TestsTogether => "assert and discriminator together",
+            SchemaCause::ExpressionMalformed => "expression malformed",
+            SchemaCause::ExpressionType => "expression type does not fit",
+            SchemaCause::PathNowhere => "path leads nowhere",
+            SchemaCause::VariableMalformed => "variable malformed",
+            SchemaCause::BranchKey => "branch key missing or twice",
             SchemaCause::NoInitiator => "initiator missing in initiated content",
             SchemaCause::ElementTwice => "element name twice",
+            SchemaCause::CalculationNotAllowed => "calculated value not allowed here",
             SchemaCause::EscapeScheme => "escape scheme malformed",
         }
     }

@@ -11,7 +11,9 @@ pub mod line;
 pub mod place;
 pub mod status;
 
-pub use cause::{DocCause, InfosetCause, LimitCause, ParseCause, SchemaCause, UnparseCause};
+pub use cause::{
+    DocCause, InfosetCause, LimitCause, ParseCause, SchemaCause, UnparseCause, VariableCause,
+};
 pub use place::Place;
 pub use status::Status;
 

@@ -2,9 +2,12 @@
 ghost use Rattle.std.specs.Prelude.{◌≡◌, IfOk, string_bytes};
 ghost use Rattle.dfdl_report.specs.Lines.{document_line};
 ghost use Rattle.dfdl_report.specs.Lines.{files_line, infoset_line, left_over_line, limit_line, memory_line};
-ghost use Rattle.dfdl_report.specs.Lines.{parse_line, schema_line, sink_line, source_line, test_line, unparse_line, usage_line};
+ghost use Rattle.dfdl_report.specs.Lines.{fault_line, parse_line, schema_line, sink_line, source_line, test_line, unparse_line, usage_line};
+ghost use Rattle.dfdl_report.specs.Lines.{variable_line};
 
-use crate::cause::{DocCause, InfosetCause, LimitCause, ParseCause, SchemaCause, UnparseCause};
+use crate::cause::{
+    DocCause, InfosetCause, LimitCause, ParseCause, SchemaCause, UnparseCause, VariableCause,
+};
 use std::alloc::{AllocError, Global};
 
 /// A processing error that began at this bit, in the element of this path.
@@ -34,6 +37,35 @@ pub fn of_test(
     let number = cause.number();
     let text = cause.text();
     format!(in alloc; "error P{number} at bit {bit} in {path}: {text}: {message}\n")
+}
+
+/// An expression at this bit, in the element of this path, that has no value for the reason of a number.
+pub fn of_fault(
+    alloc: Global,
+    cause: ParseCause,
+    bit: u64,
+    path: &str,
+    fault: u8,
+) -> Result<String, AllocError>
+    ensures { IfOk result (λ line. string_bytes line ≡ fault_line cause bit path.now fault) }
+{
+    let number = cause.number();
+    let text = cause.text();
+    format!(in alloc; "error P{number} at bit {bit} in {path}: {text} (E{fault})\n")
+}
+
+/// A variable that is set at this bit, in the element of this path, and can't be.
+pub fn of_variable(
+    alloc: Global,
+    cause: VariableCause,
+    bit: u64,
+    path: &str,
+) -> Result<String, AllocError>
+    ensures { IfOk result (λ line. string_bytes line ≡ variable_line cause bit path.now) }
+{
+    let number = cause.number();
+    let text = cause.text();
+    format!(in alloc; "error V{number} at bit {bit} in {path}: {text}\n")
 }
 
 /// An unparse error in the element of this path.

@@ -1,5 +1,7 @@
 // The lines as they are printed.
-use crate::{DocCause, InfosetCause, LimitCause, ParseCause, SchemaCause, UnparseCause, line};
+use crate::{
+    DocCause, InfosetCause, LimitCause, ParseCause, SchemaCause, UnparseCause, VariableCause, line,
+};
 use std::test::Fail;
 
 // Each kind of line once, in the form that users match on.
@@ -13,6 +15,17 @@ fn lines_are_told(rt: HostRuntime) -> Result<(), Fail> {
     assert_eq!(rt;
         told.as_str(),
         "error P10 at bit 8 in /r/b: assertion false: too big\n"
+    );
+    let cause = ParseCause::ExpressionFault { fault: 5 };
+    let told = line::of_fault(alloc, cause, 8, "/r/y", 5)?;
+    assert_eq!(rt;
+        told.as_str(),
+        "error P15 at bit 8 in /r/y: expression fault (E5)\n"
+    );
+    let told = line::of_variable(alloc, VariableCause::SetAfterRead, 0, "/r")?;
+    assert_eq!(rt;
+        told.as_str(),
+        "error V2 at bit 0 in /r: variable set after it was read\n"
     );
     let told = line::of_unparse(alloc, UnparseCause::WrongOccurrences, "/r/b")?;
     assert_eq!(rt;

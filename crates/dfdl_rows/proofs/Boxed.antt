@@ -47,15 +47,15 @@ leaf_holds P (Some own) prim bare prefixed = prefixed own refl
 pub length_element : (name : List ℕ) (simple : Option Simple) (tried : Representations) (f : Framing) (content first : ℕ)
     → length (element_rows name simple tried f content first) ≡ 1 + framing_size f None
 length_element name simple tried f content first =
-    let row : Row = Elem name simple tried (framed_row f None content first) in
+    let row : Row = Elem name simple tried f.behind (framed_row f None content first) in
     omega (arith, length-append (framed f None content first) (row ∷ []), length_framed f None content first)
 
 -- what holds of the rows that frame a content and of the element itself
 pub element_all : (P : Row → Type 0) (name : List ℕ) (simple : Option Simple) (tried : Representations) (f : Framing) (content first : ℕ) → All P (framed f None content first)
-    → P (Elem name simple tried (framed_row f None content first)) → All P (element_rows name simple tried f content first)
+    → P (Elem name simple tried f.behind (framed_row f None content first)) → All P (element_rows name simple tried f content first)
 element_all P name simple tried f content first frame own =
-    All-append P (framed f None content first) (Elem name simple tried (framed_row f None content first) ∷ []) frame
-    (All-cons P (Elem name simple tried (framed_row f None content first)) [] own (All-nil P))
+    All-append P (framed f None content first) (Elem name simple tried f.behind (framed_row f None content first) ∷ []) frame
+    (All-cons P (Elem name simple tried f.behind (framed_row f None content first)) [] own (All-nil P))
 
 pub length_boxed : (name : List ℕ) (f : Framing) (box : ContentBox) (content first : ℕ)
     → length (boxed_rows name f box content first) ≡ 1 + box_size box + framing_size f None
@@ -71,7 +71,7 @@ length_boxed name f box content first =
 -- what holds of boxes, of the rows that frame a content and of the element itself
 pub boxed_all : (P : Row → Type 0) (name : List ℕ) (f : Framing) (box : ContentBox) → ((bits body : ℕ) → P (Boxed bits body))
     → ((prefix : Prefix) (body : ℕ) → box ≡ Prefixed prefix → P (PrefixedBox prefix body)) → ((content first : ℕ) → All P (framed f None content first))
-    → ((body : ℕ) → P (Elem name None no_trials body)) → (content first : ℕ) → All P (boxed_rows name f box content first)
+    → ((body : ℕ) → P (Elem name None no_trials f.behind body)) → (content first : ℕ) → All P (boxed_rows name f box content first)
 boxed_all P name f box boxes prefixed frame own content first =
     All-append P (box_rows box content) (element_rows name None no_trials f (boxed_row box content first) (first + box_size box))
     (box_all P boxes box content (λ prefix is. prefixed prefix content is))

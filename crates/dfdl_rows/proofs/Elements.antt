@@ -7,7 +7,7 @@ use Rattle.dfdl_rows.specs.Components.{Schema, component_at, place_at}
 use Rattle.dfdl_rows.specs.Refusals.{Names, Looked, Behind, Ends, Look, in_order, in_branches, at_component, at_element, own_refusal, unless_refused, look_at, first_refusal, refusal_in}
 use Rattle.dfdl_rows.specs.Looking.{is_element, AreReady, IsAdded, IsKept, IsStep, Stand, branch_tasks, left_from, names_at, names_in, opened, refusal_behind, refusal_left, stand, visits, with_more}
 use Rattle.dfdl_rows.specs.declared.component.Component.{Component}
-use Rattle.dfdl_rows.specs.declared.component.Component.TheVariants.{Sequence, Choice, ComplexElement, SimpleElement, Hidden}
+use Rattle.dfdl_rows.specs.declared.component.Component.TheVariants.{Sequence, Choice, ComplexElement, SimpleElement, CalculatedElement, Hidden}
 use Rattle.dfdl_rows.specs.declared.refusal.Refusal.{Refusal}
 use Rattle.dfdl_rows.specs.declared.looking.Task.{Task}
 use Rattle.dfdl_rows.specs.declared.looking.Task.TheVariants.{Visit, Close}
@@ -153,6 +153,7 @@ inside_first s order is c within element none =
     first_at (Choice framing initiated) place is_one = absurd (cc)
     first_at (ComplexElement name framing box occurs parsed) place is_one = first_inside (in_order (map (look_at s) (uses_of s.uses c)) []) name
     first_at (SimpleElement name simple prim framing prefix tried scanned occurs parsed) place is_one = first_inside (in_order (map (look_at s) (uses_of s.uses c)) []) name
+    first_at (CalculatedElement name simple statement framing) place is_one = first_inside (in_order (map (look_at s) (uses_of s.uses c)) []) name
     first_at Hidden place is_one = absurd (cc)
 
 -- that of an element that is refused by itself is its own

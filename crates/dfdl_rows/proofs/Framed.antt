@@ -4,18 +4,18 @@ use Rattle.std.proofs.lemmas.List.Elements.{All-nil, All-cons, All-append}
 use Rattle.dfdl_terms.specs.declared.delimiters.Delimiter.{Delimiter}
 use Rattle.dfdl_terms.specs.declared.framing.Framing.{Framing}
 use Rattle.dfdl_terms.specs.declared.row.Row.{Row}
-use Rattle.dfdl_terms.specs.declared.row.Row.TheVariants.{Group, Skip, Align, Initiator, Terminator, Test}
-use Rattle.dfdl_rows.specs.Framing.{has_framing, tests_from, test_rows, skip_rows, align_rows, initiator_rows, terminator_rows, fill_rows, rows_before, rows_behind, in_group, framed, framed_row, framing_size}
+use Rattle.dfdl_terms.specs.declared.row.Row.TheVariants.{Group, Skip, Align, Initiator, Terminator, Statement}
+use Rattle.dfdl_rows.specs.Framing.{has_framing, statements_from, statement_rows, skip_rows, align_rows, initiator_rows, terminator_rows, fill_rows, rows_before, rows_behind, in_group, framed, framed_row, framing_size}
 
 -- the rows where something frames a content
 abbrev pub filled : Framing → Option ℕ → ℕ → ℕ → List Row
 filled f separators content first = rows_before f ++ (rows_behind f separators ++ Group (in_group f separators content first) ∷ [])
 
--- how many rows tests are
-pub length_tests : (first count : ℕ) → length (tests_from first count) ≡ count
-unfolding tests_from
-length_tests first zero = refl
-length_tests first (suc count) = omega (arith, length_tests (first + 1) count)
+-- how many rows statements are
+pub length_statements : (first count : ℕ) → length (statements_from first count) ≡ count
+unfolding statements_from
+length_statements first zero = refl
+length_statements first (suc count) = omega (arith, length_statements (first + 1) count)
 
 -- with something that frames it and without
 pub framed_cases : (f : Framing) (separators : Option ℕ) (content first : ℕ) (P : List Row → ℕ → ℕ → Type 0)
@@ -82,19 +82,19 @@ module _ (P : Row → Type 0) (skips : (bits : ℕ) → P (Skip bits)) (aligns :
   terminator_all None separators holds = All-nil P
   terminator_all (Some own) separators holds = All-cons P (Terminator own separators) [] (holds own refl) (All-nil P)
 
-  tests_all : (first count : ℕ) → ((test : ℕ) → test < first + count → P (Test test)) → All P (tests_from first count)
-  unfolding tests_from
-  tests_all first zero holds = All-nil P
-  tests_all first (suc count) holds =
-      All-cons P (Test first) (tests_from (first + 1) count) (holds first (omega arith))
-      (tests_all (first + 1) count (λ test less. holds test (omega (arith, less))))
+  statements_all : (first count : ℕ) → ((statement : ℕ) → statement < first + count → P (Statement statement)) → All P (statements_from first count)
+  unfolding statements_from
+  statements_all first zero holds = All-nil P
+  statements_all first (suc count) holds =
+      All-cons P (Statement first) (statements_from (first + 1) count) (holds first (omega arith))
+      (statements_all (first + 1) count (λ statement less. holds statement (omega (arith, less))))
 
-  module _ (f : Framing) (separators : Option ℕ) (tests : (test : ℕ) → test < f.tests.first + f.tests.count → P (Test test))
+  module _ (f : Framing) (separators : Option ℕ) (statements : (statement : ℕ) → statement < f.before.first + f.before.count → P (Statement statement))
       (initiators : (own : Delimiter) → f.initiator ≡ Some own → P (Initiator own))
       (terminators : (own : Delimiter) → f.terminator ≡ Some own → P (Terminator own separators)) where
     pub before_all : All P (rows_before f)
     before_all =
-        All-append P (test_rows f.tests) (fill_rows f) (tests_all f.tests.first f.tests.count tests)
+        All-append P (statement_rows f.before) (fill_rows f) (statements_all f.before.first f.before.count statements)
         (All-append P (skip_rows f.leading_skip) (align_rows f.alignment ++ initiator_rows f.initiator) (skip_all f.leading_skip)
         (All-append P (align_rows f.alignment) (initiator_rows f.initiator) (align_all f.alignment) (initiator_all f.initiator initiators)))
 

@@ -14,6 +14,7 @@ mod Looks
 mod Named
 mod Elements
 mod Nests
+mod Concluded
 mod Nesting
 mod Leaves
 mod Kept

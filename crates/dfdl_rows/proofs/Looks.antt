@@ -10,7 +10,7 @@ use Rattle.dfdl_rows.specs.Refusals.{Names, Behind, Look, go_on, go_beside, with
 use Rattle.dfdl_rows.specs.Looking.{is_plain, are_all, idle_from, idle_of, looks_from, looks_of, looks_left, visits, branch_tasks}
 use Rattle.dfdl_rows.specs.Sizes.{total}
 use Rattle.dfdl_rows.specs.declared.component.Component.{Component}
-use Rattle.dfdl_rows.specs.declared.component.Component.TheVariants.{Sequence, Choice, ComplexElement, SimpleElement, Hidden}
+use Rattle.dfdl_rows.specs.declared.component.Component.TheVariants.{Sequence, Choice, ComplexElement, SimpleElement, CalculatedElement, Hidden}
 use Rattle.dfdl_rows.specs.declared.looking.Task.{Task}
 use Rattle.dfdl_rows.specs.declared.looking.Task.TheVariants.{Visit, Turn, Close}
 use Rattle.dfdl_rows.specs.declared.refusal.Refusal.{Refusal}
@@ -63,6 +63,7 @@ module _ (s : Schema) (order : Places) (is : IsOrder s.uses order) where
   idle_at None Hidden place parts b names are order_is branches_are = order_is are
   idle_at None (ComplexElement name framing box occurs parsed) place parts b names are order_is branches_are = absurd (cc)
   idle_at None (SimpleElement name simple prim framing prefix tried scanned occurs parsed) place parts b names are order_is branches_are = absurd (cc)
+  idle_at None (CalculatedElement name simple statement framing) place parts b names are order_is branches_are = absurd (cc)
   idle_at (Some refusal) component place parts b names are order_is branches_are = absurd (cc)
 
   idle_next : (c : ℕ) → c < length s.uses → All IsIdle (uses_of s.uses c) → IsIdle c

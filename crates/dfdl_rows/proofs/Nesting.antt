@@ -9,21 +9,22 @@ use Rattle.dfdl_terms.specs.declared.representations.Representations.{Representa
 use Rattle.dfdl_terms.specs.Tables.{Named}
 use Rattle.dfdl_terms.specs.declared.framing.Framing.{Framing}
 use Rattle.dfdl_terms.specs.declared.row.Row.{Row}
-use Rattle.dfdl_terms.specs.declared.row.Row.TheVariants.{Elem, Group, Scope, Boxed, PrefixedBox, Hidden as HiddenRow}
-use Rattle.dfdl_terms.specs.Rows.{ChildrenBelow, Nests, NamesWithin, IsPlainRow, IsWithin, HasPlainRows}
+use Rattle.dfdl_terms.specs.declared.row.Row.TheVariants.{Elem, Group, Scope, Boxed, PrefixedBox, Statement, Hidden as HiddenRow}
+use Rattle.dfdl_terms.specs.declared.statement.Statements.{Statements}
+use Rattle.dfdl_terms.specs.Rows.{ChildrenBelow, Nests, NamesWithin, IsPlainRow, IsWithin, AreStatements, HasPlainRows}
 use Rattle.dfdl_terms.specs.Framing.{no_fill}
-use Rattle.dfdl_rows.specs.Components.{Schema, component_at, slots_at, CanHave, AreOfOne, HasOrder, HasPrimitive, HasBoxPrimitive, HasPrefixPrimitive, HasList, HasSeparators, HasDelimiters, HasTests, IsBareComponent, no_trials, occurs_in}
+use Rattle.dfdl_rows.specs.Components.{Schema, component_at, slots_at, CanHave, AreOfOne, HasOrder, HasPrimitive, HasBoxPrimitive, HasPrefixPrimitive, HasList, HasSeparators, HasDelimiters, HasStatements, IsBareComponent, no_trials, occurs_in}
 use Rattle.dfdl_rows.specs.Slots.{grouped, laid_of, separator_list, slots_of, slots_of_group, slots_size}
 use Rattle.dfdl_rows.specs.declared.slots.Grouping.{Grouping}
 use Rattle.dfdl_rows.specs.declared.slots.Grouping.TheVariants as grouping
 use Rattle.dfdl_rows.specs.declared.component.Separated.{Separated}
 use Rattle.dfdl_rows.specs.declared.times.Times.{Times}
 use Rattle.dfdl_rows.specs.declared.component.Component.{Component}
-use Rattle.dfdl_rows.specs.declared.component.Component.TheVariants.{Sequence, Choice, ComplexElement, SimpleElement, Hidden}
+use Rattle.dfdl_rows.specs.declared.component.Component.TheVariants.{Sequence, Choice, ComplexElement, SimpleElement, CalculatedElement, Hidden}
 use Rattle.dfdl_rows.specs.declared.component.ContentBox.{ContentBox}
 use Rattle.dfdl_rows.specs.declared.component.ContentBox.TheVariants.{Unbounded, Sized, Prefixed}
 use Rattle.dfdl_rows.specs.Boxes.{box_rows, boxed_row, box_size}
-use Rattle.dfdl_rows.specs.RowLists.{Numbered, leaf_row, element_rows, boxed_rows, scoped, sequence_rows, group_rows, own_rows, in_turn, last_rows, rows_at, rows_of}
+use Rattle.dfdl_rows.specs.RowLists.{Numbered, leaf_row, element_rows, boxed_rows, scoped, sequence_rows, around_rows, group_rows, own_rows, in_turn, last_rows, rows_at, rows_of}
 use Rattle.dfdl_rows.specs.Answers.{EndsWith}
 use Rattle.dfdl_rows.specs.Scopes.{list_of, scanned_list, scope_rows, scoped_row, scope_size}
 use Rattle.dfdl_rows.specs.Framing.{has_framing, rows_before, rows_behind, numbers, in_group, framed, framed_row}
@@ -34,7 +35,8 @@ use Rattle.dfdl_rows.proofs.Nests.{NestsFrom, nests_none, nests_cons, nests_appe
 use Rattle.dfdl_rows.proofs.Slotted.{IsSingle}
 use Rattle.dfdl_rows.proofs.Grouped.{grouped_all, grouped_nests, length_grouped, none_grouped}
 use Rattle.dfdl_rows.proofs.Parts.{by_parts, parts_within}
-use Rattle.dfdl_rows.proofs.RowsOf.{rows_step, length_rows, length_lasts, some_rows}
+use Rattle.dfdl_rows.proofs.Concluded.{concluded_all, concluded_nests, unconcluded}
+use Rattle.dfdl_rows.proofs.RowsOf.{rows_step, length_around, length_rows, length_lasts, some_rows}
 
 -- wherever rows begin, they nest and there is one
 pub record IsNested (rows : Numbered) : Type 0 where
@@ -83,9 +85,9 @@ module _ (f : Framing) (separators : Option ℕ) (content first : ℕ) (low : co
   nests_framed = framed_cases f separators content first (λ rows whole size. NestsFrom first rows) (λ none. nests_none first)
       (λ some.
       nests_append (rows_before f) (rows_behind f separators ++ Group (in_group f separators content first) ∷ []) first
-      (nests_flat (rows_before f) first (before_all (λ row. (n : ℕ) → ChildrenBelow n row) (λ bits n. tt) (λ bits n. tt) f separators (λ test less n. tt) (λ own is n. tt) (λ own is n. tt)))
+      (nests_flat (rows_before f) first (before_all (λ row. (n : ℕ) → ChildrenBelow n row) (λ bits n. tt) (λ bits n. tt) f separators (λ statement less n. tt) (λ own is n. tt) (λ own is n. tt)))
       (nests_append (rows_behind f separators) (Group (in_group f separators content first) ∷ []) (first + length (rows_before f))
-      (nests_flat (rows_behind f separators) (first + length (rows_before f)) (behind_all (λ row. (n : ℕ) → ChildrenBelow n row) (λ bits n. tt) (λ bits n. tt) f separators (λ test less n. tt) (λ own is n. tt) (λ own is n. tt)))
+      (nests_flat (rows_behind f separators) (first + length (rows_before f)) (behind_all (λ row. (n : ℕ) → ChildrenBelow n row) (λ bits n. tt) (λ bits n. tt) f separators (λ statement less n. tt) (λ own is n. tt) (λ own is n. tt)))
       (nests_cons (first + length (rows_before f) + length (rows_behind f separators)) (Group (in_group f separators content first)) [] group_below
       (nests_none (first + length (rows_before f) + length (rows_behind f separators) + 1)))))
 
@@ -95,8 +97,8 @@ nests_element : (f : Framing) (content first : ℕ) → content < first → (nam
 nests_element f content first low name simple tried =
     let below : framed_row f None content first < first + length (framed f None content first)
     = omega (arith, framed_below f None content first low, length_framed f None content first) in
-    nests_append (framed f None content first) (Elem name simple tried (framed_row f None content first) ∷ []) first (nests_framed f None content first low)
-    (nests_cons (first + length (framed f None content first)) (Elem name simple tried (framed_row f None content first)) [] below
+    nests_append (framed f None content first) (Elem name simple tried f.behind (framed_row f None content first) ∷ []) first (nests_framed f None content first low)
+    (nests_cons (first + length (framed f None content first)) (Elem name simple tried f.behind (framed_row f None content first)) [] below
     (nests_none (first + length (framed f None content first) + 1)))
 
 -- a content in its box
@@ -138,8 +140,10 @@ nests_slots kind f separated initiated slots lasts first long below =
     let others : List Row = sequence_rows f (separator_list separated) (first + size) (first + size + 1) in
     let after : first + length (grouped kind initiated separated slots lasts first) ≡ first + size + 1
     = omega (arith, length_grouped kind initiated separated slots lasts first) in
-    nests_append (grouped kind initiated separated slots lasts first) others first (grouped_nests kind initiated separated slots lasts first long below)
-    (subst (λ (n : ℕ). NestsFrom n others) (sym after) (nests_sequence f (separator_list separated) (first + size) (first + size + 1) (omega arith)))
+    concluded_nests f.behind (around_rows kind f separated initiated slots lasts first) first
+    (omega (arith, length_around kind f separated initiated slots lasts first))
+    (nests_append (grouped kind initiated separated slots lasts first) others first (grouped_nests kind initiated separated slots lasts first long below)
+    (subst (λ (n : ℕ). NestsFrom n others) (sym after) (nests_sequence f (separator_list separated) (first + size) (first + size + 1) (omega arith))))
 
 own_nest : (component : Component) (slots : List Times) (ps lasts : List ℕ) (first : ℕ) → CanHave component ps → length lasts ≡ length ps → length slots ≡ length ps
     → All (λ n. n < first) lasts → NestsFrom first (own_rows component slots lasts first)
@@ -153,6 +157,9 @@ own_nest (SimpleElement name simple prim f prefix tried scanned occurs parsed) s
     (leaf_holds (ChildrenBelow first) prefix prim tt (λ own is. tt))
     (nests_scoped list (element_rows name (Some simple) tried f) (λ content from low. nests_element f content from low name (Some simple) tried)
     first (first + 1) (omega arith))
+own_nest (CalculatedElement name simple statement f) slots ps lasts first can long many below =
+    nests_cons first (Statement statement) (element_rows name (Some simple) no_trials f first (first + 1)) tt
+    (nests_element f first (first + 1) (omega arith) name (Some simple) no_trials)
 own_nest Hidden slots ps lasts first can long many below =
     nests_cons first (HiddenRow (get_or lasts 0 0)) [] (below 0 0 (omega (arith, can, long))) (nests_none (first + 1))
 
@@ -207,9 +214,9 @@ rows_all s ordered P own = by_parts s.uses ordered.0 ordered.1 (λ c. IsAll P (r
 -- what rows name is there
 module _ (named : Named) (f : Framing) (separators : Option ℕ)
     (has : HasList (length named.delimiters) f.initiator × HasList (length named.delimiters) f.terminator)
-    (within : IsWithin (length named.delimiters) separators) (tests : f.tests.first + f.tests.count ≤ length named.tests) where
+    (within : IsWithin (length named.delimiters) separators) (before : AreStatements (length named.statements) f.before) where
   framed_named : (content first : ℕ) → All (NamesWithin named) (framed f separators content first)
-  framed_named = framed_all (NamesWithin named) (λ bits. tt) (λ bits. tt) f separators (λ test less. omega (arith, less, tests)) (λ own is. subst (HasList (length named.delimiters)) is has.0)
+  framed_named = framed_all (NamesWithin named) (λ bits. tt) (λ bits. tt) f separators (λ statement less. omega (arith, less, before)) (λ own is. subst (HasList (length named.delimiters)) is has.0)
       (λ own is. (subst (HasList (length named.delimiters)) is has.1, within)) (λ children. tt)
 
   scoped_named : (around : ℕ → ℕ → List Row) → ((content first : ℕ) → All (NamesWithin named) (around content first))
@@ -232,37 +239,44 @@ separators_within count (Some own) has = has
 -- the rows of a sequence or choice of its own
 group_named : (named : Named) (kind : Grouping) (f : Framing) (separated : Option Separated) (initiated : Bool) (slots : List Times) (lasts : List ℕ) (first : ℕ)
     → HasList (length named.delimiters) f.initiator → HasList (length named.delimiters) f.terminator → HasSeparators (length named.delimiters) separated
-    → f.tests.first + f.tests.count ≤ length named.tests → All (NamesWithin named) (group_rows kind f separated initiated slots lasts first)
-group_named named kind f separated initiated slots lasts first initiator terminator separators tests =
+    → AreStatements (length named.statements) f.before → AreStatements (length named.statements) f.behind
+    → All (NamesWithin named) (group_rows kind f separated initiated slots lasts first)
+group_named named kind f separated initiated slots lasts first initiator terminator separators before behind =
     let size : ℕ = slots_size separated slots in
     let within : IsWithin (length named.delimiters) (separator_list separated) = separators_within (length named.delimiters) separated separators in
-    All-append (NamesWithin named) (grouped kind initiated separated slots lasts first) (sequence_rows f (separator_list separated) (first + size) (first + size + 1))
+    concluded_all (NamesWithin named) f.behind (around_rows kind f separated initiated slots lasts first) first
+    (All-append (NamesWithin named) (grouped kind initiated separated slots lasts first) (sequence_rows f (separator_list separated) (first + size) (first + size + 1))
     (grouped_all (NamesWithin named) (λ children. tt) (λ branches own. tt) tt (λ count body. tt) (λ most item own body. tt) (λ policy position own all. tt)
     kind initiated separated slots lasts first)
-    (sequence_named named f (separator_list separated) (initiator, terminator) within tests (first + size) (first + size + 1))
+    (sequence_named named f (separator_list separated) (initiator, terminator) within before (first + size) (first + size + 1)))
+    (λ body some. behind)
 
 own_named : (named : Named) (component : Component) (slots : List Times) (lasts : List ℕ) (first : ℕ) → HasPrimitive (length named.primitives) component
-    → HasDelimiters (length named.delimiters) component → HasTests (length named.tests) component → All (NamesWithin named) (own_rows component slots lasts first)
-own_named named (Sequence f separated initiated) slots lasts first has lists tests =
-    group_named named grouping.Sequence f separated initiated slots lasts first lists.0 lists.1 lists.2 tests
-own_named named (Choice f initiated) slots lasts first has lists tests =
-    group_named named grouping.Choice f None initiated slots lasts first lists.0 lists.1 tt tests
-own_named named (ComplexElement name f box occurs parsed) slots lasts first has lists tests =
-    scoped_named named f None (lists.0, lists.1) tt tests (boxed_rows name f box)
+    → HasDelimiters (length named.delimiters) component → HasStatements (length named.statements) component → All (NamesWithin named) (own_rows component slots lasts first)
+own_named named (Sequence f separated initiated) slots lasts first has lists statements =
+    group_named named grouping.Sequence f separated initiated slots lasts first lists.0 lists.1 lists.2 statements.0 statements.1
+own_named named (Choice f initiated) slots lasts first has lists statements =
+    group_named named grouping.Choice f None initiated slots lasts first lists.0 lists.1 tt statements.0 statements.1
+own_named named (ComplexElement name f box occurs parsed) slots lasts first has lists statements =
+    scoped_named named f None (lists.0, lists.1) tt statements.0 (boxed_rows name f box)
     (boxed_all (NamesWithin named) name f box (λ bits body. tt) (λ own body is. subst (HasBoxPrimitive (length named.primitives)) is has)
-    (framed_named named f None (lists.0, lists.1) tt tests) (λ body. (tt, tt)))
+    (framed_named named f None (lists.0, lists.1) tt statements.0) (λ body. ((tt, tt), statements.1)))
     (get_or lasts 0 0) first
-own_named named (SimpleElement name simple prim f prefix tried scanned occurs parsed) slots lasts first has lists tests =
+own_named named (SimpleElement name simple prim f prefix tried scanned occurs parsed) slots lasts first has lists statements =
     let list : Option ℕ = scanned_list scanned f.terminator in
     All-cons (NamesWithin named) (leaf_row prefix prim) (scoped list (element_rows name (Some simple) tried f) first (first + 1))
     (leaf_holds (NamesWithin named) prefix prim has.0 (λ own is. (subst (HasPrefixPrimitive (length named.primitives)) is has.1, has.0)))
     (scoped_all (NamesWithin named) list (element_rows name (Some simple) tried f)
     (λ n body is. scanned_holds (λ n. n < length named.delimiters) scanned f.terminator n is (λ own there. subst (HasList (length named.delimiters)) there lists.1))
-    (λ content from. element_all (NamesWithin named) name (Some simple) tried f content from (framed_named named f None (lists.0, lists.1) tt tests content from) has.2)
+    (λ content from. element_all (NamesWithin named) name (Some simple) tried f content from (framed_named named f None (lists.0, lists.1) tt statements.0 content from) (has.2, statements.1))
     first (first + 1))
-own_named named Hidden slots lasts first has lists tests = All-cons (NamesWithin named) (HiddenRow (get_or lasts 0 0)) [] tt (All-nil (NamesWithin named))
+own_named named (CalculatedElement name simple statement f) slots lasts first has lists statements =
+    All-cons (NamesWithin named) (Statement statement) (element_rows name (Some simple) no_trials f first (first + 1)) statements.2
+    (element_all (NamesWithin named) name (Some simple) no_trials f first (first + 1)
+    (framed_named named f None (lists.0, lists.1) tt statements.0 first (first + 1)) ((tt, tt), statements.1))
+own_named named Hidden slots lasts first has lists statements = All-cons (NamesWithin named) (HiddenRow (get_or lasts 0 0)) [] tt (All-nil (NamesWithin named))
 
--- each row is plain where there is neither a test nor fill nor a delimiter nor a box nor a prefix
+-- each row is plain where there is neither a statement nor fill nor a delimiter nor a box nor a prefix
 module _ (f : Framing) (none : has_framing f ≡ false) where
   unframed_plain : (content first : ℕ) → All IsPlainRow (framed f None content first)
   unframed_plain content first = subst (All IsPlainRow) (sym (unframed f None content first none)) (All-nil IsPlainRow)
@@ -283,11 +297,13 @@ own_bare : (component : Component) (slots : List Times) (lasts : List ℕ) (firs
 own_bare (Sequence f None initiated) slots lasts first bare few =
     let size : ℕ = slots_size None slots in
     let others : List Row = sequence_rows f None (first + size) (first + size + 1) in
-    subst (λ (own : List Row). All IsPlainRow (own ++ others)) (sym (none_grouped grouping.Sequence initiated slots lasts first few))
+    subst (All IsPlainRow) (sym (unconcluded f.behind (around_rows grouping.Sequence f None initiated slots lasts first) first bare.unconcluded))
+    (subst (λ (own : List Row). All IsPlainRow (own ++ others)) (sym (none_grouped grouping.Sequence initiated slots lasts first few))
     (All-cons IsPlainRow (Group (laid_of initiated None slots lasts first).children) (sequence_rows f None (first + size) (first + size + 1)) tt
-    (unscoped_plain f bare.unframed (framed f None) (unframed_plain f bare.unframed) (first + size) (first + size + 1 + 0)))
+    (unscoped_plain f bare.unframed (framed f None) (unframed_plain f bare.unframed) (first + size) (first + size + 1 + 0))))
 own_bare (Choice f initiated) slots lasts first bare few = absurd (let none = bare.unchosen in cc)
 own_bare Hidden slots lasts first bare few = absurd (let none = bare.unhidden in cc)
+own_bare (CalculatedElement name simple statement f) slots lasts first bare few = absurd (let none = bare.uncalculated in cc)
 own_bare (Sequence f (Some own) initiated) slots lasts first bare few = absurd (let none = bare.unseparated in cc)
 own_bare (ComplexElement name f Unbounded occurs parsed) slots lasts first bare few =
     unscoped_plain f bare.unframed (boxed_rows name f Unbounded) (λ content n. element_plain f bare.unframed name None no_trials content (n + 0))
@@ -321,6 +337,7 @@ once_slots (Sequence f separated initiated) parts is = record { few = once_group
 once_slots (Choice f initiated) parts is = record { few = once_group f parts; untried = refl }
 once_slots (ComplexElement name f box occurs parsed) parts is = record { few = is.few; untried = is.untried }
 once_slots (SimpleElement name simple prim f prefix tried scanned occurs parsed) parts is = record { few = is.few; untried = is.untried }
+once_slots (CalculatedElement name simple statement f) parts is = record { few = omega arith; untried = refl }
 once_slots Hidden parts is = record { few = omega arith; untried = refl }
 
 bare_once : (components : List Component) (p : ℕ) → All IsBareComponent components → IsOnce (component_at components p)
@@ -339,12 +356,12 @@ slots_once s bare c = all (uses_of s.uses c)
 
 module _ (s : Schema) (ordered : HasOrder s.uses) (one : AreOfOne s.uses s.components s.refusals s.places) where
   pub rows_named : (named : Named) → All (HasPrimitive (length named.primitives)) s.components → All (HasDelimiters (length named.delimiters)) s.components
-      → All (HasTests (length named.tests)) s.components → (c : ℕ) → c < length s.uses → IsAll (NamesWithin named) (rows_at s c)
-  rows_named named has lists tests = rows_all s ordered (NamesWithin named)
+      → All (HasStatements (length named.statements)) s.components → (c : ℕ) → c < length s.uses → IsAll (NamesWithin named) (rows_at s c)
+  rows_named named has lists statements = rows_all s ordered (NamesWithin named)
       (λ c within lasts first. own_named named (component_at s.components c) (slots_at s c) lasts first
       (All-get_or (HasPrimitive (length named.primitives)) s.components c (Sequence no_fill None false) (omega (arith, within, one.counted)) has)
       (All-get_or (HasDelimiters (length named.delimiters)) s.components c (Sequence no_fill None false) (omega (arith, within, one.counted)) lists)
-      (All-get_or (HasTests (length named.tests)) s.components c (Sequence no_fill None false) (omega (arith, within, one.counted)) tests))
+      (All-get_or (HasStatements (length named.statements)) s.components c (Sequence no_fill None false) (omega (arith, within, one.counted)) statements))
 
   pub rows_bare : All IsBareComponent s.components → (root : ℕ) → root < length s.uses → HasPlainRows (rows_of s root)
   rows_bare bare root within = rows_all s ordered IsPlainRow
@@ -366,14 +383,14 @@ last_of (b ∷ (d ∷ before)) x =
     ap (λ (n : ℕ). slice_get (b ∷ (d ∷ (before ++ x ∷ []))) n) same ∙ last_of (d ∷ before) x
 
 -- the last of the rows is that of an element, whose body is the one before it
-abbrev pub IsLast : List ℕ → Option Simple → Representations → List Row → Type 0
-IsLast name simple tried rows = slice_get rows (length rows - 1) ≡ Some (Elem name simple tried (length rows - 2))
+abbrev pub IsLast : List ℕ → Option Simple → Representations → Statements → List Row → Type 0
+IsLast name simple tried behind rows = slice_get rows (length rows - 1) ≡ Some (Elem name simple tried behind (length rows - 2))
 
 -- an element behind its content and what frames it
 element_last : (before : List Row) (f : Framing) (content first : ℕ) (name : List ℕ) (simple : Option Simple) (tried : Representations) → first ≡ length before → content + 1 ≡ first
-    → IsLast name simple tried (before ++ element_rows name simple tried f content first)
+    → IsLast name simple tried f.behind (before ++ element_rows name simple tried f content first)
 element_last before f content first name simple tried begins is =
-    let row : Row = Elem name simple tried (framed_row f None content first) in
+    let row : Row = Elem name simple tried f.behind (framed_row f None content first) in
     let regrouped : before ++ (framed f None content first ++ row ∷ []) ≡ (before ++ framed f None content first) ++ row ∷ [] = sym (append_assoc before (framed f None content first) (row ∷ [])) in
     let count : length (before ++ (framed f None content first ++ row ∷ [])) ≡ length before + length (framed f None content first ++ row ∷ [])
     = length-append before (framed f None content first ++ row ∷ []) in
@@ -381,21 +398,21 @@ element_last before f content first name simple tried begins is =
     let same : framed_row f None content first ≡ length (before ++ (framed f None content first ++ row ∷ [])) - 2
     = omega (arith, begins, count, rest, framed_end f None content first is, length_framed f None content first) in
     ap (λ (rows : List Row). slice_get rows (length rows - 1)) regrouped
-    ∙ (last_of (before ++ framed f None content first) row ∙ ap (λ (n : ℕ). Some (Elem name simple tried n)) same)
+    ∙ (last_of (before ++ framed f None content first) row ∙ ap (λ (n : ℕ). Some (Elem name simple tried f.behind n)) same)
 
 module _ (name : List ℕ) (f : Framing) (box : ContentBox) (before : List Row) (content first : ℕ) (begins : first ≡ length before) (is : content + 1 ≡ first) where
-  boxed_last : IsLast name None no_trials (before ++ boxed_rows name f box content first)
+  boxed_last : IsLast name None no_trials f.behind (before ++ boxed_rows name f box content first)
   boxed_last =
       let element : List Row = element_rows name None no_trials f (boxed_row box content first) (first + box_size box) in
-      subst (IsLast name None no_trials) (append_assoc before (box_rows box content) element)
+      subst (IsLast name None no_trials f.behind) (append_assoc before (box_rows box content) element)
       (element_last (before ++ box_rows box content) f (boxed_row box content first) (first + box_size box) name None no_trials
       (omega (arith, begins, length-append before (box_rows box content), length_box box content)) (box_end box content first is))
 
 complex_last : (name : List ℕ) (f : Framing) (box : ContentBox) (before : List Row) (content first : ℕ) → first ≡ length before → content + 1 ≡ first
-    → IsLast name None no_trials (before ++ scoped (list_of f.terminator) (boxed_rows name f box) content first)
+    → IsLast name None no_trials f.behind (before ++ scoped (list_of f.terminator) (boxed_rows name f box) content first)
 complex_last name f box before content first begins is =
     let others : List Row = boxed_rows name f box (scoped_row (list_of f.terminator) content first) (first + scope_size (list_of f.terminator)) in
-    subst (IsLast name None no_trials) (append_assoc before (scope_rows (list_of f.terminator) content) others)
+    subst (IsLast name None no_trials f.behind) (append_assoc before (scope_rows (list_of f.terminator) content) others)
     (boxed_last name f box (before ++ scope_rows (list_of f.terminator) content) (scoped_row (list_of f.terminator) content first) (first + scope_size (list_of f.terminator))
     (omega (arith, begins, length-append before (scope_rows (list_of f.terminator) content), length_scope (list_of f.terminator) content))
     (scope_end (list_of f.terminator) content first is))
@@ -424,9 +441,17 @@ own_last (SimpleElement name simple prim framing prefix tried scanned occurs par
     let before : List Row = turn ++ (leaf_row prefix prim ∷ scope_rows list first) in
     let regrouped : turn ++ (leaf_row prefix prim ∷ (scope_rows list first ++ own)) ≡ before ++ own
     = sym (append_assoc turn (leaf_row prefix prim ∷ scope_rows list first) own) in
-    subst (IsLast name (Some simple) tried) (sym regrouped)
+    subst (IsLast name (Some simple) tried framing.behind) (sym regrouped)
     (element_last before framing whole behind name (Some simple) tried
     (omega (arith, length-append turn (leaf_row prefix prim ∷ scope_rows list first), length_scope list first)) (scope_end list first (first + 1) refl))
+own_last (CalculatedElement name simple statement framing) slots f ps can some =
+    let turn : List Row = in_turn (map f ps) 0 in
+    let first : ℕ = 0 + length (in_turn (map f ps) 0) in
+    let own : List Row = element_rows name (Some simple) no_trials framing first (first + 1) in
+    let before : List Row = turn ++ Statement statement ∷ [] in
+    let regrouped : turn ++ (Statement statement ∷ own) ≡ before ++ own = sym (append_assoc turn (Statement statement ∷ []) own) in
+    subst (IsLast name (Some simple) no_trials framing.behind) (sym regrouped)
+    (element_last before framing first (first + 1) name (Some simple) no_trials (omega (arith, length-append turn (Statement statement ∷ []))) refl)
 
 pub rows_end : (s : Schema) → HasOrder s.uses → AreOfOne s.uses s.components s.refusals s.places → (root : ℕ) → root < length s.uses
     → EndsWith (component_at s.components root) (rows_of s root)

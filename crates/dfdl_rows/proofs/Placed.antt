@@ -49,7 +49,7 @@ sits_tail all first row rows sits i other is =
     subst (λ (n : ℕ). slice_get all n ≡ Some other) same (sits (suc i) other is)
 
 -- what the content reads, the group of it and what frames it does too
-module _ (all : List Row) (IsOne : ℕ → Type 0) (f : Framing) (separators : Option ℕ) (content first : ℕ) where
+module _ (all : List Row) (IsOne IsCalculation : ℕ → Type 0) (f : Framing) (separators : Option ℕ) (content first : ℕ) where
   group_there : Sits all first (filled f separators content first)
       → slice_get all (first + length (rows_before f) + length (rows_behind f separators)) ≡ Some (Group (in_group f separators content first))
   group_there sits =
@@ -57,8 +57,8 @@ module _ (all : List Row) (IsOne : ℕ → Type 0) (f : Framing) (separators : O
       = sits_right all first (rows_before f) (rows_behind f separators ++ Group (in_group f separators content first) ∷ []) sits in
       behind (length (rows_behind f separators)) (Group (in_group f separators content first)) (seam (rows_behind f separators) (Group (in_group f separators content first)) [])
 
-  pub framed_reads : Sits all first (framed f separators content first) → ReadsBy all IsOne content → ReadsBy all IsOne (framed_row f separators content first)
-  framed_reads = framed_cases f separators content first (λ rows whole size. Sits all first rows → ReadsBy all IsOne content → ReadsBy all IsOne whole)
+  pub framed_reads : Sits all first (framed f separators content first) → ReadsBy all IsOne IsCalculation content → ReadsBy all IsOne IsCalculation (framed_row f separators content first)
+  framed_reads = framed_cases f separators content first (λ rows whole size. Sits all first rows → ReadsBy all IsOne IsCalculation content → ReadsBy all IsOne IsCalculation whole)
       (λ none sits reads. reads)
       (λ some sits reads. grouped (first + length (rows_before f) + length (rows_behind f separators)) (length (numbers (rows_before f) first)) content (in_group f separators content first)
       (group_there sits) (seam (numbers (rows_before f) first) content (numbers (rows_behind f separators) (first + length (rows_before f)))) reads)

@@ -3,9 +3,9 @@ use Rattle.std.proofs.Common.{Option, ◌≡◌, ℕ, suc, ◌+◌, ◌-◌, ◌
 use Rattle.std.proofs.lemmas.List.{append-nil}
 use Rattle.dfdl_terms.specs.declared.framing.Framing.{Framing}
 use Rattle.dfdl_terms.specs.declared.row.Row.{Row}
-use Rattle.dfdl_terms.specs.declared.row.Row.TheVariants.{Group, Test}
-use Rattle.dfdl_rows.specs.Framing.{has_framing, tests_from, test_rows, skip_rows, align_rows, initiator_rows, terminator_rows, fill_rows, rows_before, rows_behind, numbers, in_group, framed, framed_row, framing_size}
-use Rattle.dfdl_rows.proofs.Framed.{filled, length_tests, unframed}
+use Rattle.dfdl_terms.specs.declared.row.Row.TheVariants.{Group, Statement}
+use Rattle.dfdl_rows.specs.Framing.{has_framing, statements_from, statement_rows, skip_rows, align_rows, initiator_rows, terminator_rows, fill_rows, rows_before, rows_behind, numbers, in_group, framed, framed_row, framing_size}
+use Rattle.dfdl_rows.proofs.Framed.{filled, length_statements, unframed}
 
 -- where nothing frames a content
 pub none_size : (f : Framing) (separators : Option ℕ) → has_framing f ≡ false → 0 ≡ framing_size f separators
@@ -32,72 +32,72 @@ pub some_size : (f : Framing) (separators : Option ℕ) (before behind : ℕ) �
     → before + behind + 1 ≡ framing_size f separators
 some_size f separators before behind some befores behinds = omega (arith, befores, behinds, size_is f separators some)
 
-pub before_size : (f : Framing) (tests leading align initiator : ℕ) → tests ≡ length (test_rows f.tests) → leading ≡ length (skip_rows f.leading_skip)
-    → align ≡ length (align_rows f.alignment) → initiator ≡ length (initiator_rows f.initiator) → tests + (leading + align) + initiator ≡ length (rows_before f)
-before_size f tests leading align initiator tested leads aligns begins =
+pub before_size : (f : Framing) (statements leading align initiator : ℕ) → statements ≡ length (statement_rows f.before) → leading ≡ length (skip_rows f.leading_skip)
+    → align ≡ length (align_rows f.alignment) → initiator ≡ length (initiator_rows f.initiator) → statements + (leading + align) + initiator ≡ length (rows_before f)
+before_size f statements leading align initiator stated leads aligns begins =
     let rest : length (align_rows f.alignment ++ initiator_rows f.initiator) ≡ length (align_rows f.alignment) + length (initiator_rows f.initiator)
     = length-append (align_rows f.alignment) (initiator_rows f.initiator) in
     let fill : length (fill_rows f) ≡ length (skip_rows f.leading_skip) + length (align_rows f.alignment ++ initiator_rows f.initiator)
     = length-append (skip_rows f.leading_skip) (align_rows f.alignment ++ initiator_rows f.initiator) in
-    let whole : length (rows_before f) ≡ length (test_rows f.tests) + length (fill_rows f) = length-append (test_rows f.tests) (fill_rows f) in
-    omega (arith, tested, leads, aligns, begins, rest, fill, whole)
+    let whole : length (rows_before f) ≡ length (statement_rows f.before) + length (fill_rows f) = length-append (statement_rows f.before) (fill_rows f) in
+    omega (arith, stated, leads, aligns, begins, rest, fill, whole)
 
--- the first of the tests that are left
+-- the first of the statements that are left
 module _ (first count behind : ℕ) where
-  tests_step : behind < count → tests_from (first + behind) (count - behind) ≡ Test (first + behind) ∷ tests_from (first + (behind + 1)) (count - (behind + 1))
-  unfolding tests_from
-  tests_step less =
+  statements_step : behind < count → statements_from (first + behind) (count - behind) ≡ Statement (first + behind) ∷ statements_from (first + (behind + 1)) (count - (behind + 1))
+  unfolding statements_from
+  statements_step less =
       let more : count - behind ≡ suc (count - (behind + 1)) = omega (arith, less) in
       let next : first + behind + 1 ≡ first + (behind + 1) = omega arith in
-      ap (tests_from (first + behind)) more ∙ ap (λ (n : ℕ). Test (first + behind) ∷ tests_from n (count - (behind + 1))) next
+      ap (statements_from (first + behind)) more ∙ ap (λ (n : ℕ). Statement (first + behind) ∷ statements_from n (count - (behind + 1))) next
 
-  tests_end : count ≤ behind → tests_from (first + behind) (count - behind) ≡ []
-  unfolding tests_from
-  tests_end all =
+  statements_end : count ≤ behind → statements_from (first + behind) (count - behind) ≡ []
+  unfolding statements_from
+  statements_end all =
       let none : count - behind ≡ 0 = omega (arith, all) in
-      ap (tests_from (first + behind)) none
+      ap (statements_from (first + behind)) none
 
   -- one is pushed
-  module _ (test : ℕ) (rows next whole : List Row) (is : test ≡ first + behind) (less : behind < count) (next_is : next ≡ rows ++ Test test ∷ []) where
-    pub test_rows_more : rows ++ tests_from (first + behind) (count - behind) ≡ whole → next ++ tests_from (first + (behind + 1)) (count - (behind + 1)) ≡ whole
-    test_rows_more same =
-        let rest : List Row = tests_from (first + (behind + 1)) (count - (behind + 1)) in
+  module _ (statement : ℕ) (rows next whole : List Row) (is : statement ≡ first + behind) (less : behind < count) (next_is : next ≡ rows ++ Statement statement ∷ []) where
+    pub statement_rows_more : rows ++ statements_from (first + behind) (count - behind) ≡ whole → next ++ statements_from (first + (behind + 1)) (count - (behind + 1)) ≡ whole
+    statement_rows_more same =
+        let rest : List Row = statements_from (first + (behind + 1)) (count - (behind + 1)) in
         ap (λ (rs : List Row). rs ++ rest) next_is
-        ∙ (append_assoc rows (Test test ∷ []) rest
-        ∙ (ap (λ (n : ℕ). rows ++ Test n ∷ rest) is
-        ∙ (ap (λ (rs : List Row). rows ++ rs) (sym (tests_step less)) ∙ same)))
+        ∙ (append_assoc rows (Statement statement ∷ []) rest
+        ∙ (ap (λ (n : ℕ). rows ++ Statement n ∷ rest) is
+        ∙ (ap (λ (rs : List Row). rows ++ rs) (sym (statements_step less)) ∙ same)))
 
-    pub test_numbers_more : (g h all : List ℕ) → h ≡ g ++ length rows ∷ [] → g ++ numbers (tests_from (first + behind) (count - behind)) (length rows) ≡ all
-        → h ++ numbers (tests_from (first + (behind + 1)) (count - (behind + 1))) (length next) ≡ all
-    test_numbers_more g h all h_is same =
-        let rest : List Row = tests_from (first + (behind + 1)) (count - (behind + 1)) in
-        let long : length next ≡ length rows + 1 = ap (λ (rs : List Row). length rs) next_is ∙ length-append rows (Test test ∷ []) in
+    pub statement_numbers_more : (g h all : List ℕ) → h ≡ g ++ length rows ∷ [] → g ++ numbers (statements_from (first + behind) (count - behind)) (length rows) ≡ all
+        → h ++ numbers (statements_from (first + (behind + 1)) (count - (behind + 1))) (length next) ≡ all
+    statement_numbers_more g h all h_is same =
+        let rest : List Row = statements_from (first + (behind + 1)) (count - (behind + 1)) in
+        let long : length next ≡ length rows + 1 = ap (λ (rs : List Row). length rs) next_is ∙ length-append rows (Statement statement ∷ []) in
         ap (λ (ns : List ℕ). ns ++ numbers rest (length next)) h_is
         ∙ (ap (λ (n : ℕ). (g ++ length rows ∷ []) ++ numbers rest n) long
         ∙ (append_assoc g (length rows ∷ []) (numbers rest (length rows + 1))
-        ∙ (ap (λ (rs : List Row). g ++ numbers rs (length rows)) (sym (tests_step less)) ∙ same)))
+        ∙ (ap (λ (rs : List Row). g ++ numbers rs (length rows)) (sym (statements_step less)) ∙ same)))
 
   -- all are pushed
-  pub test_rows_all : (rows whole : List Row) → count ≤ behind → rows ++ tests_from (first + behind) (count - behind) ≡ whole → rows ≡ whole
-  test_rows_all rows whole all same = sym (append-nil rows) ∙ (ap (λ (rs : List Row). rows ++ rs) (sym (tests_end all)) ∙ same)
+  pub statement_rows_all : (rows whole : List Row) → count ≤ behind → rows ++ statements_from (first + behind) (count - behind) ≡ whole → rows ≡ whole
+  statement_rows_all rows whole all same = sym (append-nil rows) ∙ (ap (λ (rs : List Row). rows ++ rs) (sym (statements_end all)) ∙ same)
 
-  pub test_numbers_all : (g all : List ℕ) (from : ℕ) → count ≤ behind → g ++ numbers (tests_from (first + behind) (count - behind)) from ≡ all → g ≡ all
-  test_numbers_all g whole from all same = sym (append-nil g) ∙ (ap (λ (rs : List Row). g ++ numbers rs from) (sym (tests_end all)) ∙ same)
+  pub statement_numbers_all : (g all : List ℕ) (from : ℕ) → count ≤ behind → g ++ numbers (statements_from (first + behind) (count - behind)) from ≡ all → g ≡ all
+  statement_numbers_all g whole from all same = sym (append-nil g) ∙ (ap (λ (rs : List Row). g ++ numbers rs from) (sym (statements_end all)) ∙ same)
 
   -- there is room for one
-  pub tests_few : (rows old : List Row) (most : ℕ) → behind < count → rows ++ tests_from (first + behind) (count - behind) ≡ old ++ tests_from first count
-      → length old + length (tests_from first count) < most → length rows < most
-  tests_few rows old most less same few =
-      let long : length (rows ++ tests_from (first + behind) (count - behind)) ≡ length (old ++ tests_from first count) = ap (λ (rs : List Row). length rs) same in
+  pub statements_few : (rows old : List Row) (most : ℕ) → behind < count → rows ++ statements_from (first + behind) (count - behind) ≡ old ++ statements_from first count
+      → length old + length (statements_from first count) < most → length rows < most
+  statements_few rows old most less same few =
+      let long : length (rows ++ statements_from (first + behind) (count - behind)) ≡ length (old ++ statements_from first count) = ap (λ (rs : List Row). length rs) same in
       omega (
         arith,
         few,
         less,
         long,
-        length-append rows (tests_from (first + behind) (count - behind)),
-        length-append old (tests_from first count),
-        length_tests (first + behind) (count - behind),
-        length_tests first count,
+        length-append rows (statements_from (first + behind) (count - behind)),
+        length-append old (statements_from first count),
+        length_statements (first + behind) (count - behind),
+        length_statements first count,
       )
 
 pub behind_size : (f : Framing) (separators : Option ℕ) (terminator trailing : ℕ) → terminator ≡ length (terminator_rows f.terminator separators) → trailing ≡ length (skip_rows f.trailing_skip)

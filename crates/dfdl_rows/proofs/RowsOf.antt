@@ -1,27 +1,28 @@
 -- The rows of a component by those of its parts: how many they are, and that there is one.
-use Rattle.std.proofs.Common.{◌≡◌, ℕ, ◌+◌, ◌<◌, Bool, List, [], ◌∷◌, ◌++◌, length, map, get_or, Option, None, Some, All, sym, ap, subst, ◌∙◌, refl, arith, append_assoc, length-append}
+use Rattle.std.proofs.Common.{◌≡◌, ℕ, ◌+◌, ◌-◌, ◌<◌, Bool, List, [], ◌∷◌, ◌++◌, length, map, get_or, Option, None, Some, All, sym, ap, subst, ◌∙◌, refl, arith, append_assoc, length-append}
 use Rattle.std.proofs.lemmas.List.Elements.{All-tail}
 use Rattle.dfdl_order.specs.Parts.{uses_of}
 use Rattle.dfdl_order.proofs.Over.{value_step}
 use Rattle.dfdl_terms.specs.declared.framing.Framing.{Framing}
 use Rattle.dfdl_terms.specs.declared.row.Row.{Row}
 use Rattle.dfdl_rows.specs.declared.times.Times.{Times}
-use Rattle.dfdl_rows.specs.Components.{Schema, component_at, slots_at, HasOrder}
+use Rattle.dfdl_rows.specs.Components.{Schema, component_at, no_trials, slots_at, HasOrder}
 use Rattle.dfdl_rows.specs.declared.component.Component.{Component}
-use Rattle.dfdl_rows.specs.declared.component.Component.TheVariants.{Sequence, Choice, ComplexElement, SimpleElement, Hidden}
+use Rattle.dfdl_rows.specs.declared.component.Component.TheVariants.{Sequence, Choice, ComplexElement, SimpleElement, CalculatedElement, Hidden}
 use Rattle.dfdl_rows.specs.Sizes.{total, group_size, own_size, size_from, size_of}
 use Rattle.dfdl_rows.specs.Boxes.{box_size}
-use Rattle.dfdl_rows.specs.Framing.{framed, framing_size}
+use Rattle.dfdl_rows.specs.Framing.{conclusion, conclusion_size, framed, framing_size}
 use Rattle.dfdl_rows.specs.Scopes.{list_of, scanned_list, scope_size}
 use Rattle.dfdl_rows.specs.Slots.{grouped, separator_list, slots_size}
 use Rattle.dfdl_rows.specs.declared.slots.Grouping.{Grouping}
 use Rattle.dfdl_rows.specs.declared.slots.Grouping.TheVariants as grouping
 use Rattle.dfdl_rows.specs.declared.component.Separated.{Separated}
-use Rattle.dfdl_rows.specs.RowLists.{Numbered, boxed_rows, element_rows, scoped, sequence_rows, group_rows, own_rows, in_turn, last_rows, rows_from, no_rows, rows_at}
+use Rattle.dfdl_rows.specs.RowLists.{Numbered, boxed_rows, element_rows, scoped, sequence_rows, around_rows, group_rows, own_rows, in_turn, last_rows, rows_from, no_rows, rows_at}
 use Rattle.dfdl_rows.proofs.Framed.{length_framed}
 use Rattle.dfdl_rows.proofs.Boxed.{length_boxed, length_element}
 use Rattle.dfdl_rows.proofs.Scoped.{length_scoped}
 use Rattle.dfdl_rows.proofs.Grouped.{length_grouped}
+use Rattle.dfdl_rows.proofs.Concluded.{concluded_whole, length_concluded}
 use Rattle.dfdl_rows.proofs.Parts.{by_parts}
 
 pub rows_step : (s : Schema) → HasOrder s.uses → (c : ℕ) → c < length s.uses → rows_at s c ≡ rows_from s c (map (rows_at s) (uses_of s.uses c))
@@ -41,9 +42,15 @@ length_sequence f separators =
     length_scoped separators (scoped (list_of f.terminator) (framed f separators)) (scope_size (list_of f.terminator) + framing_size f separators)
     (length_scoped (list_of f.terminator) (framed f separators) (framing_size f separators) (length_framed f separators))
 
-length_group : (kind : Grouping) (framing : Framing) (separated : Option Separated) (initiated : Bool) (slots : List Times) (parts : List ℕ) (first : ℕ)
-    → length (group_rows kind framing separated initiated slots parts first) ≡ group_size framing separated slots
-length_group kind framing separated initiated slots parts first =
+-- the rows of a sequence or choice of its own, but for the one behind which statements are done
+abbrev pub around_size : Framing → Option Separated → List Times → ℕ
+around_size framing separated slots =
+    1 + slots_size separated slots + scope_size (separator_list separated) + scope_size (list_of framing.terminator)
+    + framing_size framing (separator_list separated)
+
+pub length_around : (kind : Grouping) (framing : Framing) (separated : Option Separated) (initiated : Bool) (slots : List Times) (parts : List ℕ) (first : ℕ)
+    → length (around_rows kind framing separated initiated slots parts first) ≡ around_size framing separated slots
+length_around kind framing separated initiated slots parts first =
     let size : ℕ = slots_size separated slots in
     let others : List Row = sequence_rows framing (separator_list separated) (first + size) (first + size + 1) in
     omega (
@@ -51,6 +58,15 @@ length_group kind framing separated initiated slots parts first =
       length-append (grouped kind initiated separated slots parts first) others,
       length_grouped kind initiated separated slots parts first,
       length_sequence framing (separator_list separated) (first + size) (first + size + 1),
+    )
+
+length_group : (kind : Grouping) (framing : Framing) (separated : Option Separated) (initiated : Bool) (slots : List Times) (parts : List ℕ) (first : ℕ)
+    → length (group_rows kind framing separated initiated slots parts first) ≡ group_size framing separated slots
+length_group kind framing separated initiated slots parts first =
+    omega (
+      arith,
+      length_concluded framing.behind (around_rows kind framing separated initiated slots parts first) first,
+      length_around kind framing separated initiated slots parts first,
     )
 
 pub length_own : (component : Component) (slots : List Times) (parts : List ℕ) (first : ℕ) → length (own_rows component slots parts first) ≡ own_size component slots
@@ -68,6 +84,8 @@ length_own (SimpleElement name simple prim framing prefix tried scanned occurs p
       length_scoped (scanned_list scanned framing.terminator) (element_rows name (Some simple) tried framing) (1 + framing_size framing None)
           (length_element name (Some simple) tried framing) first (first + 1),
     )
+length_own (CalculatedElement name simple statement framing) slots parts first =
+    omega (arith, length_element name (Some simple) no_trials framing first (first + 1))
 length_own Hidden slots parts first = refl
 
 -- so many rows, wherever they begin
@@ -99,6 +117,7 @@ some_own (Sequence framing separated initiated) slots parts = omega arith
 some_own (Choice framing initiated) slots parts = omega arith
 some_own (ComplexElement name framing box occurs parsed) slots parts = omega arith
 some_own (SimpleElement name simple prim framing prefix tried scanned occurs parsed) slots parts = omega arith
+some_own (CalculatedElement name simple statement framing) slots parts = omega arith
 some_own Hidden slots parts = omega arith
 
 -- each component has a row
@@ -125,7 +144,7 @@ module _ (kind : Grouping) (f : Framing) (separated : Option Separated) (initiat
   around_few most few = omega (arith, few, next_long)
 
   pub sequence_whole : (content : ℕ) (all : List Row) → content ≡ length rows + slots_size separated slots
-      → all ≡ next ++ sequence_rows f (separator_list separated) content (length next) → all ≡ rows ++ group_rows kind f separated initiated slots parts (length rows)
+      → all ≡ next ++ sequence_rows f (separator_list separated) content (length next) → all ≡ rows ++ around_rows kind f separated initiated slots parts (length rows)
   sequence_whole content all content_is all_is =
       let others : List Row = sequence_rows f (separator_list separated) (length rows + slots_size separated slots) (length rows + slots_size separated slots + 1) in
       all_is
@@ -133,3 +152,24 @@ module _ (kind : Grouping) (f : Framing) (separated : Option Separated) (initiat
       ∙ (ap (λ (n : ℕ). next ++ sequence_rows f (separator_list separated) (length rows + slots_size separated slots) n) next_long
       ∙ (ap (λ (rs : List Row). rs ++ others) next_is
       ∙ append_assoc rows (grouped kind initiated separated slots parts (length rows)) others)))
+
+-- the row behind which statements are done is added to them
+module _ (kind : Grouping) (f : Framing) (separated : Option Separated) (initiated : Bool) (slots : List Times) (parts : List ℕ) (rows next : List Row)
+    (next_is : next ≡ rows ++ around_rows kind f separated initiated slots parts (length rows)) where
+  around_long : length next ≡ length rows + around_size f separated slots
+  around_long =
+      let whole : length next ≡ length (rows ++ around_rows kind f separated initiated slots parts (length rows)) = ap (λ (rs : List Row). length rs) next_is in
+      omega (
+        arith,
+        whole,
+        length-append rows (around_rows kind f separated initiated slots parts (length rows)),
+        length_around kind f separated initiated slots parts (length rows),
+      )
+
+  pub conclusion_few : (most : ℕ) → length rows + group_size f separated slots < most → length next + conclusion_size f.behind < most
+  conclusion_few most few = omega (arith, few, around_long)
+
+  pub group_whole : (all : List Row) → all ≡ next ++ conclusion f.behind (length next - 1) → all ≡ rows ++ group_rows kind f separated initiated slots parts (length rows)
+  group_whole all all_is =
+      concluded_whole f.behind rows (around_rows kind f separated initiated slots parts (length rows)) next all
+      (omega (arith, length_around kind f separated initiated slots parts (length rows))) next_is all_is

@@ -11,7 +11,7 @@ use Rattle.dfdl_rows.specs.Depths.{depth_of}
 use Rattle.dfdl_rows.specs.Sizes.{size_of}
 use Rattle.dfdl_rows.specs.RowLists.{rows_of}
 use Rattle.dfdl_rows.specs.declared.component.Component.{Component}
-use Rattle.dfdl_rows.specs.declared.component.Component.TheVariants.{Sequence, Choice, ComplexElement, SimpleElement, Hidden}
+use Rattle.dfdl_rows.specs.declared.component.Component.TheVariants.{Sequence, Choice, ComplexElement, SimpleElement, CalculatedElement, Hidden}
 use Rattle.dfdl_rows.specs.declared.fault.RowsFault.{RowsFault}
 use Rattle.dfdl_rows.specs.declared.fault.RowsFault.TheVariants.{Refused, Limit, OutOfMemory}
 
@@ -66,6 +66,8 @@ pub record AreRowsOf (a : Asked) (rows : List Row) : Type 0 where
 abbrev pub EndsWith : Component → List Row → Type 0
 EndsWith (Sequence framing separated initiated) rows = Unit {0}
 EndsWith (Choice framing initiated) rows = Unit {0}
-EndsWith (ComplexElement name framing box occurs parsed) rows = slice_get rows (length rows - 1) ≡ Some (Elem name None no_trials (length rows - 2))
-EndsWith (SimpleElement name simple prim framing prefix tried scanned occurs parsed) rows = slice_get rows (length rows - 1) ≡ Some (Elem name (Some simple) tried (length rows - 2))
+EndsWith (ComplexElement name framing box occurs parsed) rows = slice_get rows (length rows - 1) ≡ Some (Elem name None no_trials framing.behind (length rows - 2))
+EndsWith (SimpleElement name simple prim framing prefix tried scanned occurs parsed) rows = slice_get rows (length rows - 1) ≡ Some (Elem name (Some simple) tried framing.behind (length rows - 2))
+EndsWith (CalculatedElement name simple statement framing) rows =
+    slice_get rows (length rows - 1) ≡ Some (Elem name (Some simple) no_trials framing.behind (length rows - 2))
 EndsWith Hidden rows = Unit {0}

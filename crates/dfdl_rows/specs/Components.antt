@@ -8,10 +8,10 @@ use Rattle.dfdl_terms.specs.declared.prefix.Prefix.{Prefix}
 use Rattle.dfdl_terms.specs.declared.representations.Representations.{Representations}
 use Rattle.dfdl_terms.specs.Framing.{no_fill}
 use Rattle.dfdl_terms.specs.Occurs.{occurs_once}
-use Rattle.dfdl_terms.specs.Rows.{AreWithin}
+use Rattle.dfdl_terms.specs.Rows.{AreStatements, AreWithin}
 use Rattle.dfdl_order.specs.Parts.{uses_of, IsOrder, Places}
 use Rattle.dfdl_rows.specs.declared.component.Component.{Component}
-use Rattle.dfdl_rows.specs.declared.component.Component.TheVariants.{Sequence, Choice, ComplexElement, SimpleElement, Hidden}
+use Rattle.dfdl_rows.specs.declared.component.Component.TheVariants.{Sequence, Choice, ComplexElement, SimpleElement, CalculatedElement, Hidden}
 use Rattle.dfdl_rows.specs.declared.component.Separated.{Separated}
 use Rattle.dfdl_rows.specs.declared.component.ContentBox.{ContentBox}
 use Rattle.dfdl_rows.specs.declared.component.ContentBox.TheVariants.{Unbounded, Sized, Prefixed}
@@ -39,12 +39,13 @@ component_at components c = get_or components c (Sequence no_fill None false)
 abbrev pub place_at : List Place → ℕ → Place
 place_at places c = get_or places c (record { document = 0; at = 0 })
 
--- a component of this kind can have these parts: a complex element its content, a hidden group that group, and a simple element none
+-- a component of this kind can have these parts: a complex element its content, a hidden group that group, and any other element none
 abbrev pub CanHave : Component → List ℕ → Type 0
 CanHave (Sequence framing separated initiated) parts = Unit {0}
 CanHave (Choice framing initiated) parts = Unit {0}
 CanHave (ComplexElement name framing box occurs parsed) parts = length parts ≡ 1
 CanHave (SimpleElement name simple prim framing prefix tried scanned occurs parsed) parts = parts ≡ []
+CanHave (CalculatedElement name simple statement framing) parts = parts ≡ []
 CanHave Hidden parts = length parts ≡ 1
 
 -- the lists are those of one schema
@@ -70,12 +71,13 @@ HasBoxPrimitive count (Sized bits) = Unit {0}
 HasBoxPrimitive count (Prefixed prefix) = prefix.prim < count
 
 -- the primitives of a component are some of so many: those of a simple element, whose representations are tried by some too,
--- and those of length prefixes
+-- and those of length prefixes; a calculated value is read by none
 abbrev pub HasPrimitive : ℕ → Component → Type 0
 HasPrimitive count (Sequence framing separated initiated) = Unit {0}
 HasPrimitive count (Choice framing initiated) = Unit {0}
 HasPrimitive count (ComplexElement name framing box occurs parsed) = HasBoxPrimitive count box
 HasPrimitive count (SimpleElement name simple prim framing prefix tried scanned occurs parsed) = (prim < count) × HasPrefixPrimitive count prefix × AreWithin count tried
+HasPrimitive count (CalculatedElement name simple statement framing) = Unit {0}
 HasPrimitive count Hidden = Unit {0}
 
 -- what frames the content of a component
@@ -84,6 +86,7 @@ framing_in (Sequence framing separated initiated) = framing
 framing_in (Choice framing initiated) = framing
 framing_in (ComplexElement name framing box occurs parsed) = framing
 framing_in (SimpleElement name simple prim framing prefix tried scanned occurs parsed) = framing
+framing_in (CalculatedElement name simple statement framing) = framing
 framing_in Hidden = no_fill
 
 -- the list of a delimiter, where there is one, is one of so many
@@ -97,6 +100,7 @@ separated_in (Sequence framing separated initiated) = separated
 separated_in (Choice framing initiated) = None
 separated_in (ComplexElement name framing box occurs parsed) = None
 separated_in (SimpleElement name simple prim framing prefix tried scanned occurs parsed) = None
+separated_in (CalculatedElement name simple statement framing) = None
 separated_in Hidden = None
 
 -- the list of separators, where there are some, is one of so many
@@ -109,9 +113,19 @@ abbrev pub HasDelimiters : ℕ → Component → Type 0
 HasDelimiters count component =
     HasList count (framing_in component).initiator × HasList count (framing_in component).terminator × HasSeparators count (separated_in component)
 
--- the tests of a component are some of so many
-abbrev pub HasTests : ℕ → Component → Type 0
-HasTests count component = (framing_in component).tests.first + (framing_in component).tests.count ≤ count
+-- the statement that calculates the value of a component, where one does, is one of so many
+abbrev pub HasCalculation : ℕ → Component → Type 0
+HasCalculation count (Sequence framing separated initiated) = Unit {0}
+HasCalculation count (Choice framing initiated) = Unit {0}
+HasCalculation count (ComplexElement name framing box occurs parsed) = Unit {0}
+HasCalculation count (SimpleElement name simple prim framing prefix tried scanned occurs parsed) = Unit {0}
+HasCalculation count (CalculatedElement name simple statement framing) = statement < count
+HasCalculation count Hidden = Unit {0}
+
+-- the statements of a component are some of so many: those before it and behind it, and that which calculates its value
+abbrev pub HasStatements : ℕ → Component → Type 0
+HasStatements count component =
+    AreStatements count (framing_in component).before × AreStatements count (framing_in component).behind × HasCalculation count component
 
 -- the box around the content of a component
 abbrev pub box_in : Component → ContentBox
@@ -119,6 +133,7 @@ box_in (Sequence framing separated initiated) = Unbounded
 box_in (Choice framing initiated) = Unbounded
 box_in (ComplexElement name framing box occurs parsed) = box
 box_in (SimpleElement name simple prim framing prefix tried scanned occurs parsed) = Unbounded
+box_in (CalculatedElement name simple statement framing) = Unbounded
 box_in Hidden = Unbounded
 
 -- the length prefix before the content of a simple element, where there is one
@@ -127,6 +142,7 @@ prefix_in (Sequence framing separated initiated) = None
 prefix_in (Choice framing initiated) = None
 prefix_in (ComplexElement name framing box occurs parsed) = None
 prefix_in (SimpleElement name simple prim framing prefix tried scanned occurs parsed) = prefix
+prefix_in (CalculatedElement name simple statement framing) = None
 prefix_in Hidden = None
 
 -- how often a component occurs where it stands in a group
@@ -135,6 +151,7 @@ occurs_in (Sequence framing separated initiated) = occurs_once
 occurs_in (Choice framing initiated) = occurs_once
 occurs_in (ComplexElement name framing box occurs parsed) = occurs
 occurs_in (SimpleElement name simple prim framing prefix tried scanned occurs parsed) = occurs
+occurs_in (CalculatedElement name simple statement framing) = occurs_once
 occurs_in Hidden = occurs_once
 
 -- a component is a choice
@@ -143,6 +160,7 @@ is_choice (Sequence framing separated initiated) = false
 is_choice (Choice framing initiated) = true
 is_choice (ComplexElement name framing box occurs parsed) = false
 is_choice (SimpleElement name simple prim framing prefix tried scanned occurs parsed) = false
+is_choice (CalculatedElement name simple statement framing) = false
 is_choice Hidden = false
 
 -- a component is a hidden group
@@ -151,17 +169,29 @@ is_hidden (Sequence framing separated initiated) = false
 is_hidden (Choice framing initiated) = false
 is_hidden (ComplexElement name framing box occurs parsed) = false
 is_hidden (SimpleElement name simple prim framing prefix tried scanned occurs parsed) = false
+is_hidden (CalculatedElement name simple statement framing) = false
 is_hidden Hidden = true
 
--- there is neither a test nor fill nor a delimiter nor a box around the content of a component, no separator in it, and no length prefix
--- before it, it is no choice and no hidden group, and it occurs no more than once, and no occurrence of it is tried
+-- the value of a component is calculated
+abbrev pub is_calculated : Component → Bool
+is_calculated (Sequence framing separated initiated) = false
+is_calculated (Choice framing initiated) = false
+is_calculated (ComplexElement name framing box occurs parsed) = false
+is_calculated (SimpleElement name simple prim framing prefix tried scanned occurs parsed) = false
+is_calculated (CalculatedElement name simple statement framing) = true
+is_calculated Hidden = false
+
+-- there is neither a statement nor fill nor a delimiter nor a box around the content of a component, no separator in it, and no length prefix
+-- before it, it is no choice and no hidden group, and it occurs no more than once, and no occurrence of it is tried; its value isn't calculated
 pub record IsBareComponent (component : Component) : Type 0 where
   pub unframed : has_framing (framing_in component) ≡ false
+  pub unconcluded : (framing_in component).behind.count ≡ 0
   pub unboxed : box_in component ≡ Unbounded
   pub unprefixed : prefix_in component ≡ None
   pub unseparated : separated_in component ≡ None
   pub unchosen : is_choice component ≡ false
   pub unhidden : is_hidden component ≡ false
+  pub uncalculated : is_calculated component ≡ false
   pub once : (occurs_in component).least ≤ 1
   pub untried : (occurs_in component).further ≡ 0
 

@@ -3,7 +3,7 @@ use Rattle.std.specs.Prelude.{ℕ, ◌+◌, List, [], ◌∷◌, max}
 use Rattle.dfdl_order.specs.Folds.{value_by}
 use Rattle.dfdl_rows.specs.Components.{Schema, component_at}
 use Rattle.dfdl_rows.specs.declared.component.Component.{Component}
-use Rattle.dfdl_rows.specs.declared.component.Component.TheVariants.{Sequence, Choice, ComplexElement, SimpleElement, Hidden}
+use Rattle.dfdl_rows.specs.declared.component.Component.TheVariants.{Sequence, Choice, ComplexElement, SimpleElement, CalculatedElement, Hidden}
 
 -- one for an element
 abbrev pub own_depth : Component → ℕ
@@ -11,6 +11,7 @@ own_depth (Sequence framing separated initiated) = 0
 own_depth (Choice framing initiated) = 0
 own_depth (ComplexElement name framing box occurs parsed) = 1
 own_depth (SimpleElement name simple prim framing prefix tried scanned occurs parsed) = 1
+own_depth (CalculatedElement name simple statement framing) = 1
 own_depth Hidden = 0
 
 -- the greatest of some numbers

@@ -1,27 +1,28 @@
--- The rows around the content of a component: those of its tests, before all others, of fill, of its initiator and of its terminator, which
--- has the number of the list of the separators that stand in the content, if some do. They and the content's row are one group, in the
--- order of the data; what there is none of has no row ('Framing', 'DFDL Schema Component Model').
-use Rattle.std.specs.Prelude.{ℕ, zero, suc, ◌+◌, Bool, ◌||◌, nat_lt, List, [], ◌∷◌, ◌++◌, length, Option, None, Some, is_some, if◌then◌else◌}
-use Rattle.dfdl_terms.specs.declared.asserting.Tests.{Tests}
+-- The rows around the content of a component: those of the statements before it, before all others, of fill, of its initiator and of its
+-- terminator, which has the number of the list of the separators that stand in the content, if some do. They and the content's row are one
+-- group, in the order of the data; what there is none of has no row ('Framing', 'DFDL Schema Component Model'). The statements behind a
+-- component have none here: an element's own row has them, and of a sequence or choice one row around all others.
+use Rattle.std.specs.Prelude.{ℕ, zero, suc, ◌+◌, ◌-◌, Bool, ◌||◌, nat_lt, List, [], ◌∷◌, ◌++◌, length, Option, None, Some, is_some, if◌then◌else◌}
 use Rattle.dfdl_terms.specs.declared.delimiters.Delimiter.{Delimiter}
 use Rattle.dfdl_terms.specs.declared.framing.Framing.{Framing}
 use Rattle.dfdl_terms.specs.declared.row.Row.{Row}
-use Rattle.dfdl_terms.specs.declared.row.Row.TheVariants.{Group, Skip, Align, Initiator, Terminator, Test}
+use Rattle.dfdl_terms.specs.declared.row.Row.TheVariants.{Group, Skip, Align, Initiator, Terminator, Statement, Concluded}
+use Rattle.dfdl_terms.specs.declared.statement.Statements.{Statements}
 
--- there is a test, a skip, an alignment to more than one bit, an initiator or a terminator
+-- there is a statement before all, a skip, an alignment to more than one bit, an initiator or a terminator
 abbrev pub has_framing : Framing → Bool
 has_framing f =
-    nat_lt 0 f.tests.count || nat_lt 0 f.leading_skip || nat_lt 1 f.alignment || is_some f.initiator || is_some f.terminator
+    nat_lt 0 f.before.count || nat_lt 0 f.leading_skip || nat_lt 1 f.alignment || is_some f.initiator || is_some f.terminator
     || nat_lt 0 f.trailing_skip
 
--- so many tests, of which the first has this number
-unfoldable pub tests_from : ℕ → ℕ → List Row
-tests_from first zero = []
-tests_from first (suc count) = Test first ∷ tests_from (first + 1) count
+-- so many statements, of which the first has this number
+unfoldable pub statements_from : ℕ → ℕ → List Row
+statements_from first zero = []
+statements_from first (suc count) = Statement first ∷ statements_from (first + 1) count
 
--- the tests of a component, one after the other
-abbrev pub test_rows : Tests → List Row
-test_rows tests = tests_from tests.first tests.count
+-- statements, one after the other
+abbrev pub statement_rows : Statements → List Row
+statement_rows statements = statements_from statements.first statements.count
 
 -- a skip of so many bits, where they are some
 abbrev pub skip_rows : ℕ → List Row
@@ -45,9 +46,9 @@ terminator_rows (Some delimiter) separators = Terminator delimiter separators �
 abbrev pub fill_rows : Framing → List Row
 fill_rows f = skip_rows f.leading_skip ++ (align_rows f.alignment ++ initiator_rows f.initiator)
 
--- the rows before a content, in the order of the data: its tests stand before all others
+-- the rows before a content, in the order of the data: the statements before it stand before all others
 abbrev pub rows_before : Framing → List Row
-rows_before f = test_rows f.tests ++ fill_rows f
+rows_before f = statement_rows f.before ++ fill_rows f
 
 -- the rows behind a content, in the order of the data
 abbrev pub rows_behind : Framing → Option ℕ → List Row
@@ -76,3 +77,15 @@ framed_row f separators content first =
 -- how many rows frame a content
 unfoldable pub framing_size : Framing → Option ℕ → ℕ
 framing_size f separators = if has_framing f then length (rows_before f) + length (rows_behind f separators) + 1 else 0
+
+-- the row around all others of a sequence or choice, behind which these statements are done, where there are some
+abbrev pub conclusion : Statements → ℕ → List Row
+conclusion behind body = if nat_lt 0 behind.count then Concluded behind body ∷ [] else []
+
+-- how many rows it is
+abbrev pub conclusion_size : Statements → ℕ
+conclusion_size behind = if nat_lt 0 behind.count then 1 else 0
+
+-- rows from a number on, of which the last is in the row behind which these statements are done, where there are some
+abbrev pub concluded : Statements → List Row → ℕ → List Row
+concluded behind rows first = rows ++ conclusion behind (first + length rows - 1)

@@ -9,7 +9,7 @@ use Rattle.dfdl_rows.specs.Components.{Schema, component_at}
 use Rattle.dfdl_rows.specs.Sizes.{total}
 use Rattle.dfdl_rows.specs.Refusals.{Names, Looked, Behind, Ends, in_order, is_among, look_at, own_refusal, first_refusal, refusal_in}
 use Rattle.dfdl_rows.specs.declared.component.Component.{Component}
-use Rattle.dfdl_rows.specs.declared.component.Component.TheVariants.{Sequence, Choice, ComplexElement, SimpleElement, Hidden}
+use Rattle.dfdl_rows.specs.declared.component.Component.TheVariants.{Sequence, Choice, ComplexElement, SimpleElement, CalculatedElement, Hidden}
 use Rattle.dfdl_rows.specs.declared.looking.Level.{Level}
 use Rattle.dfdl_rows.specs.declared.looking.Task.{Task}
 use Rattle.dfdl_rows.specs.declared.looking.Task.TheVariants.{Visit, Turn, Close}
@@ -21,6 +21,7 @@ is_element (Sequence framing separated initiated) = false
 is_element (Choice framing initiated) = false
 is_element (ComplexElement name framing box occurs parsed) = true
 is_element (SimpleElement name simple prim framing prefix tried scanned occurs parsed) = true
+is_element (CalculatedElement name simple statement framing) = true
 is_element Hidden = false
 
 -- a component is none
@@ -29,6 +30,7 @@ is_plain (Sequence framing separated initiated) = true
 is_plain (Choice framing initiated) = true
 is_plain (ComplexElement name framing box occurs parsed) = false
 is_plain (SimpleElement name simple prim framing prefix tried scanned occurs parsed) = false
+is_plain (CalculatedElement name simple statement framing) = false
 is_plain Hidden = true
 
 -- all of these

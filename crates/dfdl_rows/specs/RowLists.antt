@@ -7,17 +7,17 @@ use Rattle.dfdl_terms.specs.declared.framing.Framing.{Framing}
 use Rattle.dfdl_terms.specs.declared.prefix.Prefix.{Prefix}
 use Rattle.dfdl_terms.specs.declared.representations.Representations.{Representations}
 use Rattle.dfdl_terms.specs.declared.row.Row.{Row}
-use Rattle.dfdl_terms.specs.declared.row.Row.TheVariants.{Leaf, Elem, PrefixedLeaf, Hidden as HiddenRow}
+use Rattle.dfdl_terms.specs.declared.row.Row.TheVariants.{Leaf, Elem, PrefixedLeaf, Statement, Hidden as HiddenRow}
 use Rattle.dfdl_rows.specs.Components.{Schema, component_at, no_trials, slots_at}
 use Rattle.dfdl_rows.specs.Boxes.{box_rows, boxed_row, box_size}
-use Rattle.dfdl_rows.specs.Framing.{framed, framed_row}
+use Rattle.dfdl_rows.specs.Framing.{concluded, framed, framed_row}
 use Rattle.dfdl_rows.specs.Scopes.{list_of, scanned_list, scope_rows, scoped_row, scope_size}
 use Rattle.dfdl_rows.specs.Slots.{grouped, separator_list, slots_size}
 use Rattle.dfdl_rows.specs.declared.component.ContentBox.{ContentBox}
 use Rattle.dfdl_rows.specs.declared.component.Separated.{Separated}
 use Rattle.dfdl_rows.specs.declared.times.Times.{Times}
 use Rattle.dfdl_rows.specs.declared.component.Component.{Component}
-use Rattle.dfdl_rows.specs.declared.component.Component.TheVariants.{Sequence, Choice, ComplexElement, SimpleElement, Hidden}
+use Rattle.dfdl_rows.specs.declared.component.Component.TheVariants.{Sequence, Choice, ComplexElement, SimpleElement, CalculatedElement, Hidden}
 use Rattle.dfdl_rows.specs.declared.slots.Grouping.{Grouping}
 use Rattle.dfdl_rows.specs.declared.slots.Grouping.TheVariants as grouping
 
@@ -31,10 +31,11 @@ abbrev pub leaf_row : Option Prefix → ℕ → Row
 leaf_row None prim = Leaf prim
 leaf_row (Some prefix) prim = PrefixedLeaf prefix prim
 
--- the rows of an element around the row of its content, from a number on: those that frame it, and its own
+-- the rows of an element around the row of its content, from a number on: those that frame it, and its own, which has the statements that are
+-- done behind it
 abbrev pub element_rows : List ℕ → Option Simple → Representations → Framing → ℕ → ℕ → List Row
 element_rows name simple tried framing content first =
-    framed framing None content first ++ Elem name simple tried (framed_row framing None content first) ∷ []
+    framed framing None content first ++ Elem name simple tried framing.behind (framed_row framing None content first) ∷ []
 
 -- the rows of a complex element around the row of its content, from a number on: that of a box, then those of an element
 abbrev pub boxed_rows : List ℕ → Framing → ContentBox → ℕ → ℕ → List Row
@@ -51,17 +52,23 @@ scoped list around content first =
 abbrev pub sequence_rows : Framing → Option ℕ → ℕ → ℕ → List Row
 sequence_rows framing separators = scoped separators (scoped (list_of framing.terminator) (framed framing separators))
 
--- the rows of a sequence or choice of its own, from a number on, where these are the last rows of its parts, which occur so often: those of
--- its group, and those around it
-abbrev pub group_rows : Grouping → Framing → Option Separated → Bool → List Times → List ℕ → ℕ → List Row
-group_rows kind framing separated initiated slots parts first =
+-- the rows of a sequence or choice of its own, from a number on, where these are the last rows of its parts, which occur so often, but for
+-- the one behind which statements are done: those of its group, and those around it
+abbrev pub around_rows : Grouping → Framing → Option Separated → Bool → List Times → List ℕ → ℕ → List Row
+around_rows kind framing separated initiated slots parts first =
     grouped kind initiated separated slots parts first
     ++ sequence_rows framing (separator_list separated) (first + slots_size separated slots) (first + slots_size separated slots + 1)
+
+-- all rows of a sequence or choice of its own: these, and around all of them that behind which statements are done, where there are some
+abbrev pub group_rows : Grouping → Framing → Option Separated → Bool → List Times → List ℕ → ℕ → List Row
+group_rows kind framing separated initiated slots parts first =
+    concluded framing.behind (around_rows kind framing separated initiated slots parts first) first
 
 -- the rows of a component's own, from a number on, where these are the last rows of its parts, which occur so often: that of its
 -- content, which is that of a group for a sequence or choice, and a part's for a complex element; those of the scopes of its
 -- separators and of its terminator around it, the latter for a simple element only where markup ends its content, for a complex element
--- that of a box around this, then those that frame it, and for an element its own; and for a hidden group that which hides it
+-- that of a box around this, then those that frame it, and for an element its own; for an element whose value is calculated the row of the
+-- statement that does it stands in place of a content; and for a hidden group that which hides it
 abbrev pub own_rows : Component → List Times → List ℕ → ℕ → List Row
 own_rows (Sequence framing separated initiated) slots parts first = group_rows grouping.Sequence framing separated initiated slots parts first
 own_rows (Choice framing initiated) slots parts first = group_rows grouping.Choice framing None initiated slots parts first
@@ -70,6 +77,8 @@ own_rows (ComplexElement name framing box occurs parsed) slots parts first =
 own_rows (SimpleElement name simple prim framing prefix tried scanned occurs parsed) slots parts first =
     leaf_row prefix prim
     ∷ scoped (scanned_list scanned framing.terminator) (element_rows name (Some simple) tried framing) first (first + 1)
+own_rows (CalculatedElement name simple statement framing) slots parts first =
+    Statement statement ∷ element_rows name (Some simple) no_trials framing first (first + 1)
 own_rows Hidden slots parts first = HiddenRow (get_or parts 0 0) ∷ []
 
 -- the rows of parts, one part after the other

@@ -8,7 +8,7 @@ use Rattle.dfdl_terms.specs.declared.row.Row.{Row}
 use Rattle.dfdl_terms.specs.declared.row.Row.TheVariants.{Group, Repeat, Separator, Optional, Choice as Chosen}
 use Rattle.dfdl_rows.specs.Framing.{has_framing}
 use Rattle.dfdl_rows.specs.declared.component.Component.{Component}
-use Rattle.dfdl_rows.specs.declared.component.Component.TheVariants.{Sequence, Choice, ComplexElement, SimpleElement, Hidden}
+use Rattle.dfdl_rows.specs.declared.component.Component.TheVariants.{Sequence, Choice, ComplexElement, SimpleElement, CalculatedElement, Hidden}
 use Rattle.dfdl_rows.specs.declared.component.Separated.{Separated}
 use Rattle.dfdl_rows.specs.declared.times.Times.{Times}
 use Rattle.dfdl_rows.specs.Times.{has_tried, required_times, times_of}
@@ -22,12 +22,14 @@ abbrev pub slots_of_group : Framing → List ℕ → ℕ
 slots_of_group framing [] = if has_framing framing then 1 else 0
 slots_of_group framing (part ∷ parts) = 1
 
--- how often a component with these parts occurs in the group that it stands in: a group once for each of its slots, and a hidden one once
+-- how often a component with these parts occurs in the group that it stands in: a group once for each of its slots, a hidden one once, and an
+-- element whose value is calculated has no slot
 abbrev pub slots_of : Component → List ℕ → Times
 slots_of (Sequence framing separated initiated) parts = required_times (slots_of_group framing parts)
 slots_of (Choice framing initiated) parts = required_times (slots_of_group framing parts)
 slots_of (ComplexElement name framing box occurs parsed) parts = times_of occurs parsed
 slots_of (SimpleElement name simple prim framing prefix tried scanned occurs parsed) parts = times_of occurs parsed
+slots_of (CalculatedElement name simple statement framing) parts = required_times 0
 slots_of Hidden parts = required_times 1
 
 -- how many required slots parts have together

@@ -1,10 +1,9 @@
 // The row of a sequence with separators, some of whose occurrences are tried.
 ghost use Rattle.std.specs.Prelude.{◌≡◌, ◌<◌, ◌+◌, ◌^◌, ◌++◌, get_or, length, IfOk, OnOk};
 ghost use Rattle.dfdl_rows.specs.Apart as spec;
-ghost use Rattle.dfdl_rows.specs.Times.{has_slot};
 
 use crate::component::Separated;
-use crate::times::{Times, have_tried};
+use crate::times::{Times, has_slot, have_tried};
 use dfdl_terms::{Row, RowId, Slot, SlotList};
 use std::alloc::{AllocError, Global};
 
@@ -27,13 +26,6 @@ pub(crate) fn part_at(parts: &[RowId], at: usize) -> RowId
     } else {
         RowId::new(0)
     }
-}
-
-// Whether a part has a slot.
-fn has_slot(times: Times) -> bool
-    ensures { result ≡ has_slot times }
-{
-    times.least > 0 || times.further > 0
 }
 
 // Adds the slot of a part, where it has one.

@@ -77,6 +77,16 @@ pub enum Component {
         /// The occurrences that are tried are of occursCountKind parsed.
         is_parsed: bool,
     },
+    /// An element without parts and without a representation, whose value is calculated ('Calculated Values').
+    CalculatedElement {
+        /// The local name.
+        name: TextValue,
+        simple: Simple,
+        /// The number in the tables of the statement that calculates its value.
+        statement: u32,
+        /// The statements at it. There is neither fill nor a delimiter.
+        framing: Framing,
+    },
     /// A sequence that hides the group that is its one part ('Sequence Groups', on hidden groups).
     Hidden,
 }

@@ -1,19 +1,22 @@
 // The components of a schema, with an order of them.
 ghost use Rattle.std.specs.Prelude.{◌≡◌, ◌<◌, ◌↔◌, length, All, IfOk, IsTrue, false};
 ghost use Rattle.dfdl_order.specs.Parts.{uses_of, IsOrder};
-ghost use Rattle.dfdl_terms.specs.Rows.{AreWithin, IsWithin};
+ghost use Rattle.dfdl_terms.specs.Rows.{AreStatements, AreWithin, IsWithin};
 ghost use Rattle.dfdl_rows.specs.Components.{AreOfOne, CanHave, HasOrder, component_at, framing_in, place_at, separated_in, slots_at};
-ghost use Rattle.dfdl_rows.specs.Refusals.{own_refusal};
-ghost use Rattle.dfdl_rows.specs.Components.{HasPrimitive, HasBoxPrimitive, HasPrefixPrimitive, HasDelimiters, HasList, HasSeparators, HasTests};
+ghost use Rattle.dfdl_rows.specs.LeftOut.{is_slotless, is_stated, leaves_out};
+ghost use Rattle.dfdl_rows.specs.Refusals.{left_out, own_refusal};
+ghost use Rattle.dfdl_rows.specs.Components.{HasPrimitive, HasBoxPrimitive, HasPrefixPrimitive, HasCalculation, HasDelimiters, HasList, HasSeparators, HasStatements};
 ghost use Rattle.dfdl_rows.specs.Slots as slots;
+ghost use Rattle.dfdl_rows.specs.Times.{has_tried, have_tried};
+ghost use Rattle.std.specs.List.{list_any};
 
 use crate::component::Separated;
 use crate::framing::has_framing;
-use crate::times::{Times, required_times, times_of};
+use crate::times::{Times, has_slot, required_times, times_of};
 use crate::{Component, ContentBox, Refusal};
 use dfdl_order::{Order, Uses};
-use dfdl_report::Place;
-use dfdl_terms::{Delimiter, Framing, Prefix, Representations};
+use dfdl_report::{Place, SchemaCause};
+use dfdl_terms::{Delimiter, Framing, Prefix, Representations, Statements};
 use std::alloc::{AllocError, Global};
 use std::marker::Model;
 
@@ -115,12 +118,84 @@ impl Components {
         Ok(slots)
     }
 
-    /// The refusal of a component's own.
+    /// The refusal of a component's own: that which is given, and else that of what it leaves out.
     pub(crate) fn refusal(&self, number: u32) -> Option<Refusal>
         requires { number < length self.now.uses }
         ensures { result ≡ own_refusal self.now number }
     {
-        self.refusals[number as usize]
+        match self.refusals[number as usize] {
+            Some(refusal) => Some(refusal),
+            None => self.left_out(number),
+        }
+    }
+
+    // The refusal of a sequence that leaves out a part at which something is stated.
+    #[tactic(auto, unfolding(crate::specs::Refusals::left_out))]
+    fn left_out(&self, number: u32) -> Option<Refusal>
+        requires { number < length self.now.uses }
+        ensures { result ≡ left_out self.now number }
+    {
+        if !self.leaves_out(number) {
+            return None;
+        }
+        Some(Refusal {
+            cause: SchemaCause::OutsideSubset,
+            place: self.place(number),
+        })
+    }
+
+    // Whether a sequence leaves out a part at which something is stated.
+    #[tactic(auto, unfolding(crate::specs::LeftOut::leaves_out))]
+    fn leaves_out(&self, number: u32) -> bool
+        requires { number < length self.now.uses }
+        ensures { result ≡ leaves_out self.now number }
+    {
+        separated_in(self.component(number)).is_some()
+            && self.is_tried_in(number)
+            && self.is_slotless_in(number)
+    }
+
+    // Whether some of the occurrences of some part of a component are tried.
+    fn is_tried_in(&self, number: u32) -> bool
+        requires { number < length self.now.uses }
+        ensures { result ≡ have_tried (slots_at self.now number) }
+    {
+        for part in self.parts(number) {
+            if self.is_tried(*part) {
+                return true;
+            }
+        }
+        false
+    }
+
+    // Whether some of the occurrences of a part are tried.
+    fn is_tried(&self, part: u32) -> bool
+        requires { part < length self.now.uses }
+        ensures { result ≡ has_tried (slots.slots_of (component_at self.now.components part) (uses_of self.now.uses part)) }
+    {
+        slots_of(self.component(part), self.parts(part)).further > 0
+    }
+
+    // Whether something is stated at some part of a component that has no slot.
+    fn is_slotless_in(&self, number: u32) -> bool
+        requires { number < length self.now.uses }
+        ensures { result ≡ list_any (is_slotless self.now) (uses_of self.now.uses number) }
+    {
+        for part in self.parts(number) {
+            if self.is_slotless(*part) {
+                return true;
+            }
+        }
+        false
+    }
+
+    // Whether something is stated at a part that has no slot.
+    fn is_slotless(&self, part: u32) -> bool
+        requires { part < length self.now.uses }
+        ensures { result ≡ is_slotless self.now part }
+    {
+        is_stated(self.component(part))
+            && !has_slot(slots_of(self.component(part), self.parts(part)))
     }
 
     /// Where a component begins.
@@ -155,6 +230,20 @@ pub fn are_of_one(
     true
 }
 
+// Whether something is stated at a component that takes no bits.
+fn is_stated(component: &Component) -> bool
+    ensures { result ≡ is_stated component.now }
+{
+    match component {
+        Component::Sequence { framing, .. } => framing.behind.count > 0,
+        Component::Choice { framing, .. } => framing.behind.count > 0,
+        Component::ComplexElement { .. } => false,
+        Component::SimpleElement { .. } => false,
+        Component::CalculatedElement { .. } => true,
+        Component::Hidden => false,
+    }
+}
+
 // How often a component with these parts occurs in the group that it stands in.
 fn slots_of(component: &Component, parts: &[u32]) -> Times
     ensures { result ≡ slots.slots_of component.now parts.now }
@@ -173,6 +262,7 @@ fn slots_of(component: &Component, parts: &[u32]) -> Times
             is_parsed,
             ..
         } => times_of(*occurs, *is_parsed),
+        Component::CalculatedElement { .. } => required_times(0),
         Component::Hidden => required_times(1),
     }
 }
@@ -197,6 +287,7 @@ fn can_have(component: &Component, parts: &[u32]) -> bool
         Component::Sequence { .. } | Component::Choice { .. } => true,
         Component::ComplexElement { .. } => parts.len() == 1,
         Component::SimpleElement { .. } => parts.is_empty(),
+        Component::CalculatedElement { .. } => parts.is_empty(),
         Component::Hidden => parts.len() == 1,
     }
 }
@@ -228,6 +319,7 @@ fn has_primitive(component: &Component, count: u32) -> bool
                 && has_prefix_primitive(*prefix, count)
                 && has_tried_primitives(*tried, count)
         }
+        Component::CalculatedElement { .. } => true,
     }
 }
 
@@ -289,22 +381,45 @@ fn has_delimiters(component: &Component, count: u32) -> bool
         && has_separators(separated_in(component), count)
 }
 
-/// Whether the tests of each component are some of so many.
-pub fn have_tests(components: &[Component], count: u32) -> bool
-    ensures have { IsTrue result → All (HasTests count) components.now }
-    ensures other { result ≡ false → All (HasTests count) components.now → ⊥ }
+/// Whether the statements of each component are some of so many.
+pub fn have_statements(components: &[Component], count: u32) -> bool
+    ensures have { IsTrue result → All (HasStatements count) components.now }
+    ensures other { result ≡ false → All (HasStatements count) components.now → ⊥ }
 {
     components
         .iter()
-        .all(|component| has_tests(component, count))
+        .all(|component| has_statements(component, count))
 }
 
-// Whether the tests of a component are some of so many.
-fn has_tests(component: &Component, count: u32) -> bool
-    ensures { IsTrue result ↔ HasTests count component.now }
+// Whether the statements of a component are some of so many.
+fn has_statements(component: &Component, count: u32) -> bool
+    ensures { IsTrue result ↔ HasStatements count component.now }
 {
-    let tests = framing_in(component).tests;
-    u64::from(tests.first) + u64::from(tests.count) <= u64::from(count)
+    let framing = framing_in(component);
+    are_statements(framing.before, count)
+        && are_statements(framing.behind, count)
+        && has_calculation(component, count)
+}
+
+// Whether these statements are some of so many.
+fn are_statements(statements: Statements, count: u32) -> bool
+    ensures { IsTrue result ↔ AreStatements count statements }
+{
+    u64::from(statements.first) + u64::from(statements.count) <= u64::from(count)
+}
+
+// Whether the statement that calculates the value of a component, where one does, is one of so many.
+fn has_calculation(component: &Component, count: u32) -> bool
+    ensures { IsTrue result ↔ HasCalculation count component.now }
+{
+    match component {
+        Component::Sequence { .. } => true,
+        Component::Choice { .. } => true,
+        Component::ComplexElement { .. } => true,
+        Component::SimpleElement { .. } => true,
+        Component::CalculatedElement { statement, .. } => *statement < count,
+        Component::Hidden => true,
+    }
 }
 
 // The separators in the content of a component, where it is a sequence with some.
@@ -316,6 +431,7 @@ fn separated_in(component: &Component) -> Option<Separated>
         Component::Choice { .. } => None,
         Component::ComplexElement { .. } => None,
         Component::SimpleElement { .. } => None,
+        Component::CalculatedElement { .. } => None,
         Component::Hidden => None,
     }
 }
@@ -339,6 +455,7 @@ fn framing_in(component: &Component) -> Framing
         Component::Choice { framing, .. } => *framing,
         Component::ComplexElement { framing, .. } => *framing,
         Component::SimpleElement { framing, .. } => *framing,
+        Component::CalculatedElement { framing, .. } => *framing,
         Component::Hidden => Framing::none(),
     }
 }

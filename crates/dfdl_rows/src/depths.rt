@@ -14,6 +14,7 @@ fn own_depth(component: &Component) -> u64
         Component::Sequence { .. } | Component::Choice { .. } | Component::Hidden => 0,
         Component::ComplexElement { .. } => 1,
         Component::SimpleElement { .. } => 1,
+        Component::CalculatedElement { .. } => 1,
     }
 }
 

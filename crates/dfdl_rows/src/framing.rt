@@ -1,15 +1,15 @@
-// The rows around the content of a component: tests, fill, its initiator and its terminator.
-ghost use Rattle.std.specs.Prelude.{◌≡◌, ◌<◌, ◌≤◌, ◌+◌, ◌^◌, ◌++◌, ◌∷◌, [], length, IfOk, OnOk};
+// The rows around the content of a component: statements, fill, its initiator and its terminator; and the row behind which statements are done.
+ghost use Rattle.std.specs.Prelude.{◌≡◌, ◌<◌, ◌≤◌, ◌+◌, ◌-◌, ◌^◌, ◌++◌, ◌∷◌, [], length, IfOk, OnOk};
 ghost use Rattle.dfdl_rows.specs.Framing as spec;
 
-use dfdl_terms::{Delimiter, Framing, Row, RowId, RowList, Tests};
+use dfdl_terms::{Delimiter, Framing, Row, RowId, RowList, Statements};
 use std::alloc::{AllocError, Global};
 
-/// There is a test, a skip, an alignment to more than one bit, an initiator or a terminator.
+/// There is a statement before all, a skip, an alignment to more than one bit, an initiator or a terminator.
 pub(crate) fn has_framing(framing: Framing) -> bool
     ensures { result ≡ spec.has_framing framing }
 {
-    framing.tests.count > 0
+    framing.before.count > 0
         || framing.leading_skip > 0
         || framing.alignment > 1
         || framing.initiator.is_some()
@@ -17,12 +17,12 @@ pub(crate) fn has_framing(framing: Framing) -> bool
         || framing.trailing_skip > 0
 }
 
-// How many rows tests are.
-fn tests_size(tests: Tests) -> u64
-    ensures size { result ≡ length (spec.test_rows tests) }
+// How many rows statements are.
+fn statements_size(statements: Statements) -> u64
+    ensures size { result ≡ length (spec.statement_rows statements) }
     ensures few { result < 2 ^ 32 }
 {
-    u64::from(tests.count)
+    u64::from(statements.count)
 }
 
 // How many rows a skip of so many bits is.
@@ -58,7 +58,7 @@ fn size_before(framing: Framing) -> u64
     ensures few { result < 2 ^ 32 + 3 }
 {
     let fill = skip_size(framing.leading_skip) + align_size(framing.alignment);
-    tests_size(framing.tests) + fill + initiator_size(framing.initiator)
+    statements_size(framing.before) + fill + initiator_size(framing.initiator)
 }
 
 // How many rows a terminator is behind a content with separators of a list, or with none.
@@ -103,26 +103,30 @@ fn push_row(rows: &mut Vec<Row>, group: &mut Vec<RowId>, row: Row) -> Result<(),
     Ok(())
 }
 
-// The number of a test so many behind the first. There is no memory for 2^32 tests.
-fn test_behind(first: u32, behind: u32) -> Result<u32, AllocError>
-    ensures { IfOk result (λ test. test ≡ first + behind) }
+// The number of a statement so many behind the first. There is no memory for 2^32 statements.
+fn statement_behind(first: u32, behind: u32) -> Result<u32, AllocError>
+    ensures { IfOk result (λ statement. statement ≡ first + behind) }
 {
     match first.checked_add(behind) {
-        Some(test) => Ok(test),
+        Some(statement) => Ok(statement),
         None => Err(AllocError),
     }
 }
 
-// Adds the tests of a component.
-fn push_tests(rows: &mut Vec<Row>, group: &mut Vec<RowId>, tests: Tests) -> Result<(), AllocError>
-    requires { length rows.old.items + length (spec.test_rows tests) < 2 ^ 32 }
-    ensures rows { OnOk result (rows.new.items ≡ rows.old.items ++ spec.test_rows tests) }
+// Adds statements.
+fn push_statements(
+    rows: &mut Vec<Row>,
+    group: &mut Vec<RowId>,
+    statements: Statements,
+) -> Result<(), AllocError>
+    requires { length rows.old.items + length (spec.statement_rows statements) < 2 ^ 32 }
+    ensures rows { OnOk result (rows.new.items ≡ rows.old.items ++ spec.statement_rows statements) }
     ensures group { OnOk result (group.new.items
-        ≡ group.old.items ++ spec.numbers (spec.test_rows tests) (length rows.old.items)) }
+        ≡ group.old.items ++ spec.numbers (spec.statement_rows statements) (length rows.old.items)) }
 {
-    for behind in 0..tests.count {
-        let test = test_behind(tests.first, behind)?;
-        push_row(rows, group, Row::Test { test })?;
+    for behind in 0..statements.count {
+        let statement = statement_behind(statements.first, behind)?;
+        push_row(rows, group, Row::Statement { statement })?;
     }
     Ok(())
 }
@@ -206,12 +210,12 @@ fn push_before(
     ensures group { OnOk result (group.new.items
         ≡ group.old.items ++ spec.numbers (spec.rows_before framing) (length rows.old.items)) }
 {
-    push_tests(rows, group, framing.tests)?;
+    push_statements(rows, group, framing.before)?;
     push_fill(rows, group, framing)?;
     Ok(())
 }
 
-// Adds the rows before a content that aren't tests.
+// Adds the rows before a content that aren't statements.
 fn push_fill(
     rows: &mut Vec<Row>,
     group: &mut Vec<RowId>,
@@ -269,4 +273,25 @@ pub(crate) fn push_framed(
         children: RowList::new(group),
     })?;
     Ok(whole)
+}
+
+/// How many rows the row is behind which statements are done.
+pub(crate) fn conclusion_size(behind: Statements) -> u64
+    ensures size { result ≡ spec.conclusion_size behind }
+    ensures few { result ≤ 1 }
+{
+    if behind.count > 0 { 1 } else { 0 }
+}
+
+/// Adds the row behind which statements are done, where there are some. The last of the rows is in it.
+pub(crate) fn push_conclusion(rows: &mut Vec<Row>, behind: Statements) -> Result<(), AllocError>
+    requires { length rows.old.items + spec.conclusion_size behind < 2 ^ 32 }
+    ensures { OnOk result (rows.new.items ≡ rows.old.items ++ spec.conclusion behind (length rows.old.items - 1)) }
+{
+    if behind.count == 0 {
+        return Ok(());
+    }
+    let body = RowId::new(rows.len().saturating_sub(1) as u32);
+    rows.push(Row::Concluded { behind, body })?;
+    Ok(())
 }

@@ -12,6 +12,7 @@ fn is_plain(component: &Component) -> bool
     match component {
         Component::Sequence { .. } | Component::Choice { .. } | Component::Hidden => true,
         Component::ComplexElement { .. } | Component::SimpleElement { .. } => false,
+        Component::CalculatedElement { .. } => false,
     }
 }
 

@@ -26,7 +26,7 @@ mod times;
 mod walk;
 
 pub use component::{Component, ContentBox, Separated};
-pub use components::{Components, are_of_one, have_delimiters, have_primitives, have_tests};
+pub use components::{Components, are_of_one, have_delimiters, have_primitives, have_statements};
 pub use fault::RowsFault;
 pub use refusal::Refusal;
-pub use rows::{rows_of, terms_of};
+pub use rows::{rows_of, terms_from};

@@ -307,6 +307,14 @@ impl<'c> Looking<'c> {
                 let found = add_element(names, own, name.as_str(), place, inside)?;
                 Ok(found)
             }
+            Component::CalculatedElement { name, .. } => {
+                let inside = known.refusals[number as usize];
+                let place = components.place(number);
+                let names = &mut self.names;
+                let own = &mut self.level.own;
+                let found = add_element(names, own, name.as_str(), place, inside)?;
+                Ok(found)
+            }
             Component::Hidden => {
                 visit_all(&mut self.tasks, components.parts(number))?;
                 Ok(None)

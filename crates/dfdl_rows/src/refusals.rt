@@ -17,6 +17,7 @@ fn is_element(component: &Component) -> bool
     match component {
         Component::Sequence { .. } | Component::Choice { .. } | Component::Hidden => false,
         Component::ComplexElement { .. } | Component::SimpleElement { .. } => true,
+        Component::CalculatedElement { .. } => true,
     }
 }
 

@@ -1,8 +1,8 @@
 // The rows of a root, or why there are none.
 ghost use Rattle.std.specs.Prelude.{◌≡◌, ◌<◌, ◌≤◌, ℕ, length, All, IfOk, IfErr, vec_len};
-ghost use Rattle.dfdl_terms.specs.Rows.{most_rows as table_rows, Nests, NamesWithin, IsPrimitive, HasPlainRows, named_by, table_of};
+ghost use Rattle.dfdl_terms.specs.Rows.{most_rows as table_rows, Nests, NamesWithin, IsPrimitive, HasPlainRows, table_of};
 ghost use Rattle.dfdl_terms.specs.Tables.{Named};
-ghost use Rattle.dfdl_rows.specs.Components.{component_at, HasPrimitive, HasDelimiters, HasTests, IsBareComponent};
+ghost use Rattle.dfdl_rows.specs.Components.{component_at, HasPrimitive, HasDelimiters, HasStatements, IsBareComponent};
 ghost use Rattle.dfdl_rows.specs.Leaves.{HaveLeaves, HaveBareLeaves};
 ghost use Rattle.dfdl_rows.specs.Answers.{asked, AreRowsOf, IsFaultOf, EndsWith};
 
@@ -33,7 +33,7 @@ pub fn rows_of(
     ensures root { IfOk result (λ made. EndsWith (component_at components.now.components root) made.items) }
     ensures named { (named : Named) → All (HasPrimitive (length named.primitives)) components.now.components
         → All (HasDelimiters (length named.delimiters)) components.now.components
-        → All (HasTests (length named.tests)) components.now.components
+        → All (HasStatements (length named.statements)) components.now.components
         → IfOk result (λ made. All (NamesWithin named) made.items) }
     ensures leaves { IfOk result (λ made. HaveLeaves components.now.components made.items) }
     ensures bare { All IsBareComponent components.now.components
@@ -59,38 +59,8 @@ pub fn rows_of(
     Ok(all_rows(alloc, components, root)?)
 }
 
-/// The same rows as terms, with what they name by numbers.
-pub fn terms_of(
-    alloc: Global,
-    components: &Components,
-    root: u32,
-    most_depth: u32,
-    most_rows: u32,
-    tables: Tables,
-) -> Result<Terms, RowsFault>
-    requires within { root < length components.now.uses }
-    requires few { most_rows ≤ table_rows }
-    requires primitives { All (HasPrimitive (length tables.primitives)) components.now.components }
-    requires delimiters { All (HasDelimiters (length tables.delimiters)) components.now.components }
-    requires tests { All (HasTests (length tables.tests)) components.now.components }
-    requires bounded { All IsPrimitive tables.primitives }
-    ensures rows { IfOk result (λ made. AreRowsOf (asked components.now root most_depth most_rows) made.rows) }
-    ensures tables { IfOk result (λ made. named_by made ≡ tables) }
-    ensures fault { IfErr result (IsFaultOf (asked components.now root most_depth most_rows)) }
-    ensures root { IfOk result (λ made. EndsWith (component_at components.now.components root) made.rows) }
-    ensures leaves { IfOk result (λ made. HaveLeaves components.now.components made.rows) }
-    ensures bare { All IsBareComponent components.now.components
-        → IfOk result (λ made. HaveBareLeaves components.now.components made.rows) }
-    ensures plain { All IsBareComponent components.now.components → IfOk result (λ made. HasPlainRows made.rows) }
-{
-    match rows_of(alloc, components, root, most_depth, most_rows) {
-        Ok(rows) => Ok(built(alloc, rows, tables)),
-        Err(fault) => Err(fault),
-    }
-}
-
-// The terms of rows that are terms.
-fn built(alloc: Global, rows: Vec<Row>, tables: Tables) -> Terms
+/// Rows as terms, with what they name by numbers.
+pub fn terms_from(alloc: Global, rows: Vec<Row>, tables: Tables) -> Terms
     requires some { 0 < vec_len rows }
     requires few { vec_len rows ≤ table_rows }
     requires nests { Nests rows.items }

@@ -5,7 +5,7 @@ ghost use Rattle.dfdl_rows.specs.Saturated.{saturated};
 
 use crate::boxes::box_size;
 use crate::component::Separated;
-use crate::framing::framing_size;
+use crate::framing::{conclusion_size, framing_size};
 use crate::scopes::{list_of, scanned_list, scope_size, separator_list};
 use crate::slot_sizes::slots_size;
 use crate::times::Times;
@@ -19,7 +19,7 @@ fn group_size(framing: Framing, separated: Option<Separated>, slots: &[Times]) -
 {
     let separators = separator_list(separated);
     let scopes = scope_size(separators) + scope_size(list_of(framing.terminator));
-    let around = 1 + scopes + framing_size(framing, separators);
+    let around = 1 + scopes + framing_size(framing, separators) + conclusion_size(framing.behind);
     slots_size(separated, slots).saturating_add(around)
 }
 
@@ -51,6 +51,7 @@ fn own_size(component: &Component, slots: &[Times]) -> u64
             let scope = scope_size(scanned_list(*is_scanned, framing.terminator));
             2 + scope + framing_size(*framing, None)
         }
+        Component::CalculatedElement { framing, .. } => 2 + framing_size(*framing, None),
         Component::Hidden => 1,
     }
 }

@@ -47,3 +47,10 @@ pub(crate) fn have_tried(slots: &[Times]) -> bool
 {
     slots.iter().any(|times| times.further > 0)
 }
+
+/// Whether there is an occurrence: the part has a slot.
+pub(crate) fn has_slot(times: Times) -> bool
+    ensures { result ≡ spec.has_slot times }
+{
+    times.least > 0 || times.further > 0
+}

@@ -12,13 +12,13 @@ ghost use Rattle.dfdl_terms.specs.declared.row.Row.TheVariants.{Elem};
 ghost use Rattle.dfdl_rows.specs.declared.walk.Task.TheVariants.{Enter, Close};
 
 use crate::boxes::push_boxed;
-use crate::framing::push_framed;
+use crate::framing::{push_conclusion, push_framed};
 use crate::scopes::{list_of, push_scoped, scanned_list, separator_list};
 use crate::slots::{Group, Grouping, push_group};
 use crate::times::Times;
 use crate::{Component, Components};
 use dfdl_forms::Simple;
-use dfdl_terms::{Framing, Prefix, Representations, Row, RowId};
+use dfdl_terms::{Framing, Prefix, Representations, Row, RowId, Statements};
 use dfdl_value::TextValue;
 use std::alloc::{AllocError, Global};
 use std::collections::VecDeque;
@@ -206,7 +206,8 @@ fn push_own(
             let scoped = push_scoped(rows, list_of(framing.terminator), first_of(parts))?;
             let boxed = push_boxed(rows, *content_box, scoped)?;
             let body = push_framed(alloc, rows, *framing, None, boxed)?;
-            push_element(alloc, rows, name, None, NO_TRIALS, body)
+            let behind = framing.behind;
+            push_element(alloc, rows, name, None, NO_TRIALS, behind, body)
         }
         Component::SimpleElement {
             name,
@@ -223,7 +224,22 @@ fn push_own(
             let list = scanned_list(*is_scanned, framing.terminator);
             let scoped = push_scoped(rows, list, content)?;
             let body = push_framed(alloc, rows, *framing, None, scoped)?;
-            push_element(alloc, rows, name, Some(*simple), *tried, body)
+            let behind = framing.behind;
+            push_element(alloc, rows, name, Some(*simple), *tried, behind, body)
+        }
+        Component::CalculatedElement {
+            name,
+            simple,
+            statement,
+            framing,
+        } => {
+            let content = RowId::new(rows.len() as u32);
+            rows.push(Row::Statement {
+                statement: *statement,
+            })?;
+            let body = push_framed(alloc, rows, *framing, None, content)?;
+            let behind = framing.behind;
+            push_element(alloc, rows, name, Some(*simple), NO_TRIALS, behind, body)
         }
         Component::Hidden => {
             let body = first_of(parts);
@@ -245,6 +261,24 @@ fn push_grouped(
     requires { length rows.old.items + group_size framing group.separated slots.now < 2 ^ 32 }
     ensures { OnOk result (rows.new.items
         ≡ rows.old.items ++ lists.group_rows group.kind framing group.separated group.initiated slots.now parts.now
+        (length rows.old.items)) }
+{
+    push_unconcluded(alloc, rows, group, framing, slots, parts)?;
+    push_conclusion(rows, framing.behind)
+}
+
+// Adds the rows of a sequence or choice of its own, but for the one behind which statements are done.
+fn push_unconcluded(
+    alloc: Global,
+    rows: &mut Vec<Row>,
+    group: Group,
+    framing: Framing,
+    slots: &[Times],
+    parts: &[RowId],
+) -> Result<(), AllocError>
+    requires { length rows.old.items + group_size framing group.separated slots.now < 2 ^ 32 }
+    ensures { OnOk result (rows.new.items
+        ≡ rows.old.items ++ lists.around_rows group.kind framing group.separated group.initiated slots.now parts.now
         (length rows.old.items)) }
 {
     let content = push_group(alloc, rows, group, slots, parts)?;
@@ -288,15 +322,17 @@ fn push_element(
     name: &TextValue,
     simple: Option<Simple>,
     tried: Representations,
+    behind: Statements,
     body: RowId,
 ) -> Result<(), AllocError>
-    ensures { OnOk result (rows.new.items ≡ rows.old.items ++ Elem name.now simple tried body ∷ []) }
+    ensures { OnOk result (rows.new.items ≡ rows.old.items ++ Elem name.now simple tried behind body ∷ []) }
 {
     let name = name.copy(alloc)?;
     rows.push(Row::Elem {
         name,
         simple,
         tried,
+        behind,
         body,
     })?;
     Ok(())

@@ -10,6 +10,7 @@ use Rattle.dfdl_edge.specs.Whole.{IsUsedUp}
 use Rattle.dfdl_terms.specs.Rows.{Table}
 use Rattle.dfdl_grammar.specs.declared.end.End.{End as DocumentEnd}
 use Rattle.dfdl_grammar.specs.declared.end.End.TheVariants.{Done as IsDone, Failed as Fails, Stopped}
+use Rattle.dfdl_grammar.specs.declared.end.Halt.TheVariants as halt
 use Rattle.dfdl_grammar.specs.States.{State}
 use Rattle.dfdl_grammar.specs.Documents.{document}
 use Rattle.dfdl_run.specs.declared.stop.Stop.{Stop}
@@ -41,7 +42,8 @@ document_read : (verb : Verb) (table : Table) (before after : SourceSeen) (t : T
     → IsReadEnd verb table before after (document_end t bits e s)
 document_read verb table before after t bits IsDone s answered = answered
 document_read verb table before after t bits (Fails cause bit) s answered = answered
-document_read verb table before after t bits (Stopped cause quantity) s answered = inr answered
+document_read verb table before after t bits (Stopped (halt.Limit cause) quantity) s answered = inr answered
+document_read verb table before after t bits (Stopped (halt.Variable cause) bit) s answered = answered
 
 -- what bytes come to is what the source comes to
 read : (verb : Verb) (table : Table) (before after : SourceSeen) (bytes : List ℕ)

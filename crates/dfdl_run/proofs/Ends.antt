@@ -1,23 +1,23 @@
 -- How a run ends, from what it decided and what came of it.
-use Rattle.std.proofs.Common.{◌≡◌, ◌⊎◌, ℕ, ◌+◌, ◌++◌, ◌==◌, Bool, IsTrue, List, [], length, Option}
+use Rattle.std.proofs.Common.{◌≡◌, ◌⊎◌, ℕ, ◌+◌, ◌++◌, IsTrue, List, [], length, Option}
 use Rattle.std.proofs.Common.{None, Some, Ok, Err, refl, sym, ap, subst, ◌∙◌, arith, append-nil}
 use Rattle.std.proofs.Common.{inl, inr}
 use Rattle.std.proofs.Math.Seq.{take-length}
-use Rattle.std.proofs.lemmas.Bool.{eqb-true, or_cases}
 use Rattle.dfdl_edge.specs.Faults.{Rose}
 use Rattle.dfdl_edge.specs.Files.{FilesSeen}
 use Rattle.dfdl_edge.specs.Sink.{Adds, AddsFront, SinkSeen}
 use Rattle.dfdl_edge.specs.Source.{SourceSeen}
 use Rattle.dfdl_edge.specs.Whole.{IsUsedUp}
-use Rattle.dfdl_report.specs.Lines.{memory_line}
+use Rattle.dfdl_report.specs.Lines.{memory_line, variable_line}
+use Rattle.dfdl_report.specs.declared.cause.VariableCause.{VariableCause}
 use Rattle.dfdl_report.specs.declared.cause.LimitCause.TheVariants.{Input, Window, Nodes, Text, Depth, Schema, Schemas, Rows}
 use Rattle.dfdl_documents.specs.Faults.{IsFailed}
-use Rattle.dfdl_components.specs.declared.site.Site.{Site}
+use Rattle.dfdl_compile.specs.Settling.{Free}
 use Rattle.dfdl_breaches.specs.Builds.{PatternsSeen}
 use Rattle.dfdl_terms.specs.Rows.{Table}
 use Rattle.dfdl_run.specs.declared.command.Verb.{Verb}
 use Rattle.dfdl_run.specs.declared.answer.Answer.{Answer}
-use Rattle.dfdl_run.specs.declared.answer.Answer.TheVariants.{Done, LeftOver, Failed, Unparsed}
+use Rattle.dfdl_run.specs.declared.answer.Answer.TheVariants.{Done, LeftOver, Failed, Variable, Unparsed}
 use Rattle.dfdl_run.specs.declared.answer.Answer.TheVariants.{NotUnparsed, NoInfoset}
 use Rattle.dfdl_run.specs.declared.stop.Stop.{Stop}
 use Rattle.dfdl_run.specs.declared.stop.Stop.TheVariants.{Usage, FilesFailed, NoDocument, Refused}
@@ -29,11 +29,10 @@ use Rattle.dfdl_run.specs.Expects.{Expects, no_command, no_documents, no_schema,
 use Rattle.dfdl_run.specs.Expects.{meant, is_excused, Tells, Gives, NoneFailed, IsAsExpected}
 use Rattle.dfdl_run.specs.Finished.{Finished, all, no_sink, no_memory, Writes}
 use Rattle.dfdl_run.specs.Outside.{Inputs, Outside}
-use Rattle.dfdl_run.specs.Run.{IsRun, FilesFail, SinkFails, SourceFails, is_of_data}
-use Rattle.dfdl_run.specs.Run.{is_before_data, is_before_schema}
+use Rattle.dfdl_run.specs.Run.{IsRun, FilesFail, SinkFails, SourceFails, VariableFails, is_before_schema, is_of_data}
 use Rattle.dfdl_run.specs.Schemas.{asked}
 use Rattle.dfdl_run.proofs.Excuses.{end_excused, limit_excused}
-use Rattle.dfdl_run.proofs.Rankings.{LoadingIsOne, Ranked, same, files, source, memory, ranked, due_memory}
+use Rattle.dfdl_run.proofs.Rankings.{LoadingIsOne, Ranked, Reading, same, files, source, memory, ranked, due_memory}
 
 adds_front : (old new : Option (List ℕ)) (piece : List ℕ) → Adds old piece new
     → AddsFront old piece new
@@ -58,43 +57,46 @@ same_adds (Some before) (Some now) is =
     let same_bytes : now ≡ before = cc in same_bytes ∙ sym (append-nil before)
 
 -- each end that is expected is excused by want of memory
-memory_excused : (words : List (List ℕ)) (refused : Site → Bool) (told : Inputs) (b : End) → Expects words refused told b
+memory_excused : (words : List (List ℕ)) (free : Free) (told : Inputs) (b : End) → Expects words free told b
     → IsTrue (is_excused b 9)
-memory_excused words refused told _ (no_command at place) = refl
-memory_excused words refused told _ (no_documents order due orders expects) = due_memory told.files order.schema due expects
-memory_excused words refused told _ (no_schema order documents cause document at orders there loaded wrong) = refl
-memory_excused words refused told _ (no_rows order documents cause quantity orders there loaded past) = limit_excused cause quantity
-memory_excused words refused told _ (long_input order documents table bytes orders there loaded schema input_is long) = refl
-memory_excused words refused told _ (meant order documents table bytes orders there loaded schema input_is few) = (end_excused order.verb table bytes).memory
+memory_excused words free told _ (no_command at place) = refl
+memory_excused words free told _ (no_documents order due orders expects) = due_memory told.files order.schema due expects
+memory_excused words free told _ (no_schema order documents cause document at orders there loaded wrong) = refl
+memory_excused words free told _ (no_rows order documents cause quantity orders there loaded past) = limit_excused cause quantity
+memory_excused words free told _ (long_input order documents table bytes orders there loaded schema input_is long) = refl
+memory_excused words free told _ (meant order documents table bytes orders there loaded schema input_is few) = (end_excused order.verb table bytes).memory
 
--- the statuses of answers are those of data
-of_data : (answer : Answer) → IsTrue (is_of_data (status_of (Ok answer)))
-of_data (Done line) = refl
-of_data (LeftOver line bit) = refl
-of_data (Failed cause bit path message) = refl
-of_data (Unparsed pieces) = refl
-of_data (NotUnparsed pieces cause path) = refl
-of_data (NoInfoset cause path) = refl
+-- the statuses of answers are those of data, and that of a variable that can't be set
+abbrev IsOfAnswer : ℕ → Type 0
+IsOfAnswer status = IsTrue (is_of_data status) ⊎ (status ≡ 2)
+
+of_answer : (answer : Answer) → IsOfAnswer (status_of (Ok answer))
+of_answer (Done line) = inl refl
+of_answer (LeftOver line bit) = inl refl
+of_answer (Failed cause bit path message) = inl refl
+of_answer (Variable cause bit path) = inr refl
+of_answer (Unparsed pieces) = inl refl
+of_answer (NotUnparsed pieces cause path) = inl refl
+of_answer (NoInfoset cause path) = inl refl
 
 no_answer : (answer : Answer) (status : ℕ) → status_of (Ok answer) ≡ status
-    → (IsTrue (is_of_data status) → ⊥) → ⊥
-no_answer answer status is none =
-    none (subst (λ (s : ℕ). IsTrue (is_of_data s)) is (of_data answer))
+    → (IsTrue (is_of_data status) → ⊥) → (status ≡ 2 → ⊥) → ⊥
+no_answer answer status is none apart = elim (subst IsOfAnswer is (of_answer answer)) [ inl some ↦ none some | inr two ↦ apart two ]
 
 five : (e : End) → status_of e ≡ 5 → e ≡ Err SourceFailed
 five (Err SourceFailed) is = refl
 five (Err stop) is = absurd (cc)
-five (Ok answer) is = absurd (no_answer answer 5 is (λ none. cc))
+five (Ok answer) is = absurd (no_answer answer 5 is (λ none. cc) (λ two. cc))
 
 seven : (e : End) → status_of e ≡ 7 → (name : List ℕ) × (e ≡ Err (FilesFailed name))
 seven (Err (FilesFailed name)) is = (name, refl)
 seven (Err stop) is = absurd (cc)
-seven (Ok answer) is = absurd (no_answer answer 7 is (λ none. cc))
+seven (Ok answer) is = absurd (no_answer answer 7 is (λ none. cc) (λ two. cc))
 
 nine : (e : End) → status_of e ≡ 9 → e ≡ Err OutOfMemory
 nine (Err OutOfMemory) is = refl
 nine (Err stop) is = absurd (cc)
-nine (Ok answer) is = absurd (no_answer answer 9 is (λ none. cc))
+nine (Ok answer) is = absurd (no_answer answer 9 is (λ none. cc) (λ two. cc))
 
 never_six : (e : End) → status_of e ≡ 6 → ⊥
 never_six (Err (Usage word)) is = cc
@@ -104,7 +106,7 @@ never_six (Err (Refused cause document at)) is = cc
 never_six (Err SourceFailed) is = cc
 never_six (Err (Limit cause quantity)) is = cc
 never_six (Err OutOfMemory) is = cc
-never_six (Ok answer) is = no_answer answer 6 is (λ none. cc)
+never_six (Ok answer) is = no_answer answer 6 is (λ none. cc) (λ two. cc)
 
 nothing_written : (e : End) → (status_of e ≡ 0 → ⊥) → (status_of e ≡ 3 → ⊥) → (status_of e ≡ 11 → ⊥)
     → written_of e ≡ []
@@ -114,6 +116,7 @@ nothing_written (Ok (Unparsed pieces)) not_done _ _ = absurd (not_done refl)
 nothing_written (Ok (NotUnparsed pieces cause path)) _ not_failed _ = absurd (not_failed refl)
 nothing_written (Ok (NoInfoset cause path)) _ _ _ = refl
 nothing_written (Ok (Failed cause bit path message)) _ _ _ = refl
+nothing_written (Ok (Variable cause bit path)) _ _ _ = refl
 nothing_written (Err stop) _ _ _ = refl
 
 unwritten_stop : (stop : Stop) → Writes (Err stop) → ⊥
@@ -142,18 +145,19 @@ stop_early SourceFailed of = cc
 stop_early (Limit cause quantity) of = cc
 stop_early OutOfMemory of = cc
 
-answer_late : (answer : Answer) → IsTrue (is_before_data (status_of (Ok answer))) → ⊥
+answer_late : (answer : Answer) → IsTrue (is_before_schema (status_of (Ok answer))) → ⊥
 answer_late (Done line) early = cc
 answer_late (LeftOver line bit) early = cc
 answer_late (Failed cause bit path message) early = cc
+answer_late (Variable cause bit path) early = cc
 answer_late (Unparsed pieces) early = cc
 answer_late (NotUnparsed pieces cause path) early = cc
 answer_late (NoInfoset cause path) early = cc
 
--- what the source came to has no status of what stops a run before
+-- what the source came to has no status of words and files
 read_late : (verb : Verb) (table : Table) (before after : SourceSeen) (e : End)
     → IsReadEnd verb table before after e
-    → IsTrue (is_before_data (status_of e)) → ⊥
+    → IsTrue (is_before_schema (status_of e)) → ⊥
 read_late verb table before after (Ok answer) read early = answer_late answer early
 read_late verb table before after (Err SourceFailed) read early = cc
 read_late verb table before after (Err OutOfMemory) read early = cc
@@ -162,6 +166,38 @@ read_late verb table before after (Err (Usage word)) read early = absurd read
 read_late verb table before after (Err (FilesFailed name)) read early = absurd read
 read_late verb table before after (Err (NoDocument cause document at)) read early = absurd read
 read_late verb table before after (Err (Refused cause document at)) read early = absurd read
+
+-- where what the source came to has the status of a refused schema, a variable can't be set, and the source is used up
+record IsRefusedByData (before after : SourceSeen) (e : End) : Type 0 where
+  pub cause : VariableCause
+  pub bit : ℕ
+  pub path : List ℕ
+  pub note : note_of e ≡ variable_line cause bit path
+  pub used_up : IsUsedUp before.left after.left
+
+answer_refused : (verb : Verb) (table : Table) (before after : SourceSeen) (answer : Answer)
+    → IsReadEnd verb table before after (Ok answer)
+    → status_of (Ok answer) ≡ 2 → IsRefusedByData before after (Ok answer)
+answer_refused verb table before after (Variable cause bit path) read two =
+    record { cause = cause; bit = bit; path = path; note = refl; used_up = read.used_up }
+answer_refused verb table before after (Done line) read two = absurd (cc)
+answer_refused verb table before after (LeftOver line bit) read two = absurd (cc)
+answer_refused verb table before after (Failed cause bit path message) read two = absurd (cc)
+answer_refused verb table before after (Unparsed pieces) read two = absurd (cc)
+answer_refused verb table before after (NotUnparsed pieces cause path) read two = absurd (cc)
+answer_refused verb table before after (NoInfoset cause path) read two = absurd (cc)
+
+read_refused : (verb : Verb) (table : Table) (before after : SourceSeen) (e : End)
+    → IsReadEnd verb table before after e
+    → status_of e ≡ 2 → IsRefusedByData before after e
+read_refused verb table before after (Ok answer) read two = answer_refused verb table before after answer read two
+read_refused verb table before after (Err SourceFailed) read two = absurd (cc)
+read_refused verb table before after (Err OutOfMemory) read two = absurd (cc)
+read_refused verb table before after (Err (Limit cause quantity)) read two = absurd (cc)
+read_refused verb table before after (Err (Usage word)) read two = absurd read
+read_refused verb table before after (Err (FilesFailed name)) read two = absurd read
+read_refused verb table before after (Err (NoDocument cause document at)) read two = absurd read
+read_refused verb table before after (Err (Refused cause document at)) read two = absurd read
 
 read_used : (verb : Verb) (table : Table) (before after : SourceSeen) (e : End)
     → IsReadEnd verb table before after e
@@ -184,55 +220,48 @@ read_still verb table before after (Err (NoDocument cause document at)) read wel
 read_still verb table before after (Err (Refused cause document at)) read well = absurd read
 
 -- no schema is no usage
-load_late : (verb : Verb) (refused : Site → Bool) (before after : FilesSeen) (seen now : PatternsSeen) (name : List ℕ) (stop : Stop)
-    → IsLoadFault verb refused before after seen now name stop
+load_late : (verb : Verb) (free : Free) (before after : FilesSeen) (seen now : PatternsSeen) (name : List ℕ) (stop : Stop)
+    → IsLoadFault verb free before after seen now name stop
     → status_of (Err stop) ≡ 4 → ⊥
-load_late verb refused before after seen now name (Usage word) fault four = absurd fault
-load_late verb refused before after seen now name (FilesFailed failed) fault four = cc
-load_late verb refused before after seen now name (NoDocument cause document at) fault four = cc
-load_late verb refused before after seen now name (Refused cause document at) fault four = cc
-load_late verb refused before after seen now name SourceFailed fault four = absurd fault
-load_late verb refused before after seen now name (Limit cause quantity) fault four = cc
-load_late verb refused before after seen now name OutOfMemory fault four = cc
+load_late verb free before after seen now name (Usage word) fault four = absurd fault
+load_late verb free before after seen now name (FilesFailed failed) fault four = cc
+load_late verb free before after seen now name (NoDocument cause document at) fault four = cc
+load_late verb free before after seen now name (Refused cause document at) fault four = cc
+load_late verb free before after seen now name SourceFailed fault four = absurd fault
+load_late verb free before after seen now name (Limit cause quantity) fault four = cc
+load_late verb free before after seen now name OutOfMemory fault four = cc
 
 -- the count of faults of the files stands where no load failed
-load_still : (verb : Verb) (refused : Site → Bool) (before after : FilesSeen) (seen now : PatternsSeen) (name : List ℕ) (stop : Stop)
-    → IsLoadFault verb refused before after seen now name stop
+load_still : (verb : Verb) (free : Free) (before after : FilesSeen) (seen now : PatternsSeen) (name : List ℕ) (stop : Stop)
+    → IsLoadFault verb free before after seen now name stop
     → ((status_of (Err stop) ≡ 7) ⊎ (status_of (Err stop) ≡ 9) → ⊥) → after.faults ≡ before.faults
-load_still verb refused before after seen now name (FilesFailed failed) fault well = absurd (well (inl refl))
-load_still verb refused before after seen now name (NoDocument cause document at) fault well =
+load_still verb free before after seen now name (FilesFailed failed) fault well = absurd (well (inl refl))
+load_still verb free before after seen now name (NoDocument cause document at) fault well =
     ap (λ (f : FilesSeen). f.faults) fault.0.refused.seen
-load_still verb refused before after seen now name (Refused cause document at) fault well =
+load_still verb free before after seen now name (Refused cause document at) fault well =
     ap (λ (f : FilesSeen). f.faults) fault.loaded.seen
-load_still verb refused before after seen now name (Limit Schema quantity) (inl limit) well = ap (λ (f : FilesSeen). f.faults) limit.0.1.seen
-load_still verb refused before after seen now name (Limit Schemas quantity) (inl limit) well = ap (λ (f : FilesSeen). f.faults) limit.0.1.seen
-load_still verb refused before after seen now name (Limit cause quantity) (inl limit) well = absurd limit.0
-load_still verb refused before after seen now name (Limit cause quantity) (inr past) well = ap (λ (f : FilesSeen). f.faults) past.loaded.seen
-load_still verb refused before after seen now name OutOfMemory fault well = fault.0
-load_still verb refused before after seen now name (Usage word) fault well = absurd fault
-load_still verb refused before after seen now name SourceFailed fault well = absurd fault
+load_still verb free before after seen now name (Limit Schema quantity) (inl limit) well = ap (λ (f : FilesSeen). f.faults) limit.0.1.seen
+load_still verb free before after seen now name (Limit Schemas quantity) (inl limit) well = ap (λ (f : FilesSeen). f.faults) limit.0.1.seen
+load_still verb free before after seen now name (Limit cause quantity) (inl limit) well = absurd limit.0
+load_still verb free before after seen now name (Limit cause quantity) (inr past) well = ap (λ (f : FilesSeen). f.faults) past.loaded.seen
+load_still verb free before after seen now name OutOfMemory fault well = fault.0
+load_still verb free before after seen now name (Usage word) fault well = absurd fault
+load_still verb free before after seen now name SourceFailed fault well = absurd fault
 
 -- what builds patterns is left as it was where a file ended the run
-load_unbuilt : (verb : Verb) (refused : Site → Bool) (before after : FilesSeen) (seen now : PatternsSeen) (name : List ℕ) (stop : Stop)
-    → IsLoadFault verb refused before after seen now name stop
+load_unbuilt : (verb : Verb) (free : Free) (before after : FilesSeen) (seen now : PatternsSeen) (name : List ℕ) (stop : Stop)
+    → IsLoadFault verb free before after seen now name stop
     → IsTrue (is_before_schema (status_of (Err stop))) → now ≡ seen
-load_unbuilt verb refused before after seen now name (Usage word) fault early = absurd fault
-load_unbuilt verb refused before after seen now name (FilesFailed failed) fault early = fault.1
-load_unbuilt verb refused before after seen now name (NoDocument cause document at) fault early = fault.1
-load_unbuilt verb refused before after seen now name (Refused cause document at) fault early = absurd (cc)
-load_unbuilt verb refused before after seen now name SourceFailed fault early = absurd fault
-load_unbuilt verb refused before after seen now name (Limit cause quantity) fault early = absurd (cc)
-load_unbuilt verb refused before after seen now name OutOfMemory fault early = absurd (cc)
+load_unbuilt verb free before after seen now name (Usage word) fault early = absurd fault
+load_unbuilt verb free before after seen now name (FilesFailed failed) fault early = fault.1
+load_unbuilt verb free before after seen now name (NoDocument cause document at) fault early = fault.1
+load_unbuilt verb free before after seen now name (Refused cause document at) fault early = absurd (cc)
+load_unbuilt verb free before after seen now name SourceFailed fault early = absurd fault
+load_unbuilt verb free before after seen now name (Limit cause quantity) fault early = absurd (cc)
+load_unbuilt verb free before after seen now name OutOfMemory fault early = absurd (cc)
 
--- what data came to has no status of words and files
-before_data : (status : ℕ) → IsTrue (is_before_schema status) → IsTrue (is_before_data status)
-before_data status early = elim (or_cases (status == 4) (status == 7) early) [
-  | inl four ↦ subst (λ (s : ℕ). IsTrue (is_before_data s)) (sym (eqb-true status 4 four)) refl
-  | inr seven ↦ subst (λ (s : ℕ). IsTrue (is_before_data s)) (sym (eqb-true status 7 seven)) refl
-]
-
-module _ (loading : LoadingIsOne) (words : List (List ℕ)) (refused : Site → Bool) (before after : Outside) (status : ℕ) (a : End)
-    (decided : Decided words refused before.inputs after.inputs a) (finished : Finished a before.outputs after.outputs status) where
+module _ (loading : LoadingIsOne) (reading : Reading) (words : List (List ℕ)) (free : Free) (before after : Outside) (status : ℕ) (a : End)
+    (decided : Decided words free before.inputs after.inputs a) (finished : Finished a before.outputs after.outputs status) where
   -- what it is to end so
   abbrev Ends : End → Type 0
   Ends b = Gives b before.outputs after.outputs status
@@ -311,10 +340,10 @@ module _ (loading : LoadingIsOne) (words : List (List ℕ)) (refused : Site → 
   comes b number (inl excused) = inl excused
   comes b number (inr gives) = inr (λ is. sym gives.status_is ∙ is, λ is. gives.status_is ∙ is)
 
-  expected : (b : End) → Expects words refused before.inputs b → IsAsExpected b before after status
+  expected : (b : End) → Expects words free before.inputs b → IsAsExpected b before after status
   expected b expects =
-      let ranking = ranked loading refused before.inputs after.inputs words a b decided expects in
-      let is_exact = exact b ranking finished (memory_excused words refused before.inputs b expects) in
+      let ranking = ranked loading reading free before.inputs after.inputs words a b decided expects in
+      let is_exact = exact b ranking finished (memory_excused words free before.inputs b expects) in
       record {
         exact = is_exact;
         complete = complete b ranking finished;
@@ -326,12 +355,12 @@ module _ (loading : LoadingIsOne) (words : List (List ℕ)) (refused : Site → 
   abbrev AtEnd : Type 0
   AtEnd = (status ≡ status_of a) × Tells (note_of a) before.outputs.notes after.outputs.notes
 
-  source_rises : a ≡ Err SourceFailed → Decided words refused before.inputs after.inputs a
+  source_rises : a ≡ Err SourceFailed → Decided words free before.inputs after.inputs a
       → Rose before.inputs.source.faults after.inputs.source.faults
   source_rises end (by_words at place is untouched) = absurd (let no = sym end ∙ is in cc)
   source_rises end (by_schema order stop orders is fault loads unread) =
       let same_stop : stop ≡ SourceFailed = let no = sym is ∙ end in cc in
-      absurd (subst (λ (s : Stop). IsLoadFault order.verb refused before.inputs.files after.inputs.files before.inputs.patterns after.inputs.patterns order.schema s) same_stop fault)
+      absurd (subst (λ (s : Stop). IsLoadFault order.verb free before.inputs.files after.inputs.files before.inputs.patterns after.inputs.patterns order.schema s) same_stop fault)
   source_rises end (by_data order table orders found read) =
       subst (λ (e : End). IsReadEnd order.verb table before.inputs.source after.inputs.source e) end read
 
@@ -353,12 +382,12 @@ module _ (loading : LoadingIsOne) (words : List (List ℕ)) (refused : Site → 
   sink_failed (all gives still) is = absurd (never_six a (sym gives.status_is ∙ is))
 
   names : (name : List ℕ) → a ≡ Err (FilesFailed name) → Ends a
-      → Decided words refused before.inputs after.inputs a → FilesFail words before after
+      → Decided words free before.inputs after.inputs a → FilesFail words before after
   names name end gives (by_words at place is untouched) = absurd (let no = sym end ∙ is in cc)
   names name end gives (by_schema order stop orders is fault loads unread) =
       let same_stop : stop ≡ FilesFailed name = let no = sym is ∙ end in cc in
       let failed : IsFailed before.inputs.files after.inputs.files (asked order.schema) name =
-      (subst (λ (s : Stop). IsLoadFault order.verb refused before.inputs.files after.inputs.files before.inputs.patterns after.inputs.patterns order.schema s) same_stop fault).0 in
+      (subst (λ (s : Stop). IsLoadFault order.verb free before.inputs.files after.inputs.files before.inputs.patterns after.inputs.patterns order.schema s) same_stop fault).0 in
       record {
         rose = failed.rose;
         named = record {
@@ -408,20 +437,37 @@ module _ (loading : LoadingIsOne) (words : List (List ℕ)) (refused : Site → 
   stopped stop is (no_memory number none told) = inr number
 
   unread : Finished a before.outputs after.outputs status
-      → Decided words refused before.inputs after.inputs a
-      → IsTrue (is_before_data status) → after.inputs.source ≡ before.inputs.source
+      → Decided words free before.inputs after.inputs a
+      → IsTrue (is_before_schema status) → after.inputs.source ≡ before.inputs.source
   unread end (by_words at place is untouched) early = ap (λ (i : Inputs). i.source) untouched
   unread end (by_schema order stop orders is fault loads kept) early = kept
   unread (all gives still) (by_data order table orders found read) early =
       absurd (read_late order.verb table before.inputs.source after.inputs.source a read
-      (subst (λ (s : ℕ). IsTrue (is_before_data s)) gives.status_is early))
+      (subst (λ (s : ℕ). IsTrue (is_before_schema s)) gives.status_is early))
   unread (no_sink line number rose written told) (by_data order table orders found read) early =
-      absurd (let no : IsTrue (is_before_data 6) = subst (λ (s : ℕ). IsTrue (is_before_data s)) number early in cc)
+      absurd (let no : IsTrue (is_before_schema 6) = subst (λ (s : ℕ). IsTrue (is_before_schema s)) number early in cc)
   unread (no_memory number none told) (by_data order table orders found read) early =
-      absurd (let no : IsTrue (is_before_data 9) = subst (λ (s : ℕ). IsTrue (is_before_data s)) number early in cc)
+      absurd (let no : IsTrue (is_before_schema 9) = subst (λ (s : ℕ). IsTrue (is_before_schema s)) number early in cc)
+
+  schema_refused : Finished a before.outputs after.outputs status
+      → Decided words free before.inputs after.inputs a
+      → status ≡ 2 → (after.inputs.source ≡ before.inputs.source) ⊎ VariableFails before after
+  schema_refused end (by_words at place is untouched) two = inl (ap (λ (i : Inputs). i.source) untouched)
+  schema_refused end (by_schema order stop orders is fault loads kept) two = inl kept
+  schema_refused (all gives still) (by_data order table orders found read) two =
+      let told = read_refused order.verb table before.inputs.source after.inputs.source a read (sym gives.status_is ∙ two) in
+      inr (record {
+        cause = told.cause;
+        bit = told.bit;
+        path = told.path;
+        used_up = told.used_up;
+        told = subst (λ (line : List ℕ). Tells line before.outputs.notes after.outputs.notes) told.note gives.told;
+      })
+  schema_refused (no_sink line number rose written told) (by_data order table orders found read) two = absurd (omega arith)
+  schema_refused (no_memory number none told) (by_data order table orders found read) two = absurd (omega arith)
 
   unloaded : Finished a before.outputs after.outputs status
-      → Decided words refused before.inputs after.inputs a
+      → Decided words free before.inputs after.inputs a
       → status ≡ 4 → after.inputs.files ≡ before.inputs.files
   unloaded end (by_words at place is untouched) four = ap (λ (i : Inputs). i.files) untouched
   unloaded end (by_schema order stop orders is fault loads kept) four =
@@ -429,34 +475,34 @@ module _ (loading : LoadingIsOne) (words : List (List ℕ)) (refused : Site → 
     where
       no_usage : (status ≡ status_of (Err stop)) ⊎ (status ≡ 9) → ⊥
       no_usage (inl own) =
-          load_late order.verb refused before.inputs.files after.inputs.files before.inputs.patterns after.inputs.patterns order.schema stop fault (sym own ∙ four)
+          load_late order.verb free before.inputs.files after.inputs.files before.inputs.patterns after.inputs.patterns order.schema stop fault (sym own ∙ four)
       no_usage (inr none) = absurd (omega arith)
   unloaded (all gives still) (by_data order table orders found read) four =
       absurd (read_late order.verb table before.inputs.source after.inputs.source a read
-      (subst (λ (s : ℕ). IsTrue (is_before_data s)) (sym four ∙ gives.status_is) refl))
+      (subst (λ (s : ℕ). IsTrue (is_before_schema s)) (sym four ∙ gives.status_is) refl))
   unloaded (no_sink line number rose written told) (by_data order table orders found read) four = absurd (omega arith)
   unloaded (no_memory number none told) (by_data order table orders found read) four = absurd (omega arith)
 
   unbuilt : Finished a before.outputs after.outputs status
-      → Decided words refused before.inputs after.inputs a
+      → Decided words free before.inputs after.inputs a
       → IsTrue (is_before_schema status) → after.inputs.patterns ≡ before.inputs.patterns
   unbuilt end (by_words at place is untouched) early = ap (λ (i : Inputs). i.patterns) untouched
   unbuilt end (by_schema order stop orders is fault loads kept) early = by (stopped stop is end)
     where
       by : (status ≡ status_of (Err stop)) ⊎ (status ≡ 9) → after.inputs.patterns ≡ before.inputs.patterns
-      by (inl own) = load_unbuilt order.verb refused before.inputs.files after.inputs.files before.inputs.patterns after.inputs.patterns order.schema
+      by (inl own) = load_unbuilt order.verb free before.inputs.files after.inputs.files before.inputs.patterns after.inputs.patterns order.schema
           stop fault (subst (λ (s : ℕ). IsTrue (is_before_schema s)) own early)
       by (inr none) = absurd (let no : IsTrue (is_before_schema 9) = subst (λ (s : ℕ). IsTrue (is_before_schema s)) none early in cc)
   unbuilt (all gives still) (by_data order table orders found read) early =
       absurd (read_late order.verb table before.inputs.source after.inputs.source a read
-      (subst (λ (s : ℕ). IsTrue (is_before_data s)) gives.status_is (before_data status early)))
+      (subst (λ (s : ℕ). IsTrue (is_before_schema s)) gives.status_is early))
   unbuilt (no_sink line number rose written told) (by_data order table orders found read) early =
       absurd (let no : IsTrue (is_before_schema 6) = subst (λ (s : ℕ). IsTrue (is_before_schema s)) number early in cc)
   unbuilt (no_memory number none told) (by_data order table orders found read) early =
       absurd (let no : IsTrue (is_before_schema 9) = subst (λ (s : ℕ). IsTrue (is_before_schema s)) number early in cc)
 
   used_up : Finished a before.outputs after.outputs status
-      → Decided words refused before.inputs after.inputs a
+      → Decided words free before.inputs after.inputs a
       → IsTrue (is_of_data status) → IsUsedUp before.inputs.source.left after.inputs.source.left
   used_up (no_sink line number rose written told) decision of =
       absurd (let no : IsTrue (is_of_data 6) = subst (λ (s : ℕ). IsTrue (is_of_data s)) number of in cc)
@@ -477,7 +523,7 @@ module _ (loading : LoadingIsOne) (words : List (List ℕ)) (refused : Site → 
   out_still (no_memory number none told) not_failed = ap (λ (s : SinkSeen). s.faults) none
 
   source_still : Finished a before.outputs after.outputs status
-      → Decided words refused before.inputs after.inputs a
+      → Decided words free before.inputs after.inputs a
       → (status ≡ 5 → ⊥) → (status ≡ 9 → ⊥)
       → after.inputs.source.faults ≡ before.inputs.source.faults
   source_still end (by_words at place is untouched) not_failed some =
@@ -493,12 +539,12 @@ module _ (loading : LoadingIsOne) (words : List (List ℕ)) (refused : Site → 
       either (inr none) = some none
 
   files_still : Finished a before.outputs after.outputs status
-      → Decided words refused before.inputs after.inputs a
+      → Decided words free before.inputs after.inputs a
       → (status ≡ 7 → ⊥) → (status ≡ 9 → ⊥) → after.inputs.files.faults ≡ before.inputs.files.faults
   files_still end (by_words at place is untouched) not_failed some =
       ap (λ (i : Inputs). i.files.faults) untouched
   files_still end (by_schema order stop orders is fault loads kept) not_failed some =
-      load_still order.verb refused before.inputs.files after.inputs.files before.inputs.patterns after.inputs.patterns order.schema stop fault
+      load_still order.verb free before.inputs.files after.inputs.files before.inputs.patterns after.inputs.patterns order.schema stop fault
       (λ own. either (stopped stop is end) own)
     where
       either : (status ≡ status_of (Err stop)) ⊎ (status ≡ 9)
@@ -509,7 +555,7 @@ module _ (loading : LoadingIsOne) (words : List (List ℕ)) (refused : Site → 
   files_still end (by_data order table orders found read) not_failed some =
       ap (λ (f : FilesSeen). f.faults) found.loaded.seen
 
-  few_loads : Decided words refused before.inputs after.inputs a → AreFewLoads before.inputs.files after.inputs.files
+  few_loads : Decided words free before.inputs after.inputs a → AreFewLoads before.inputs.files after.inputs.files
   few_loads (by_words at place is untouched) =
       record { n = 0; few = omega arith; loads = ap (λ (i : Inputs). i.files.loads) untouched }
   few_loads (by_schema order stop orders is fault loads kept) = loads
@@ -521,7 +567,7 @@ module _ (loading : LoadingIsOne) (words : List (List ℕ)) (refused : Site → 
 
   pub run_is : IsRun words before after status
   run_is = record {
-    refused = refused;
+    free = free;
     answered = (a, decided, finished);
     expected = expected;
     source_failed = source_failed finished;
@@ -530,6 +576,7 @@ module _ (loading : LoadingIsOne) (words : List (List ℕ)) (refused : Site → 
     out_of_memory = out_of_memory finished;
     unwritten = unwritten finished;
     unread = unread finished decided;
+    schema_refused = schema_refused finished decided;
     unloaded = unloaded finished decided;
     unbuilt = unbuilt finished decided;
     used_up = used_up finished decided;

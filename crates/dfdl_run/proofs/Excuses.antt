@@ -5,6 +5,7 @@ use Rattle.dfdl_report.specs.declared.cause.LimitCause.TheVariants.{Input, Windo
 use Rattle.dfdl_terms.specs.Rows.{Table}
 use Rattle.dfdl_grammar.specs.declared.end.End.{End as DocumentEnd}
 use Rattle.dfdl_grammar.specs.declared.end.End.TheVariants.{Done as IsDone, Failed as Fails, Stopped}
+use Rattle.dfdl_grammar.specs.declared.end.Halt.TheVariants as halt
 use Rattle.dfdl_grammar.specs.States.{State}
 use Rattle.dfdl_grammar.specs.Documents.{document}
 use Rattle.dfdl_run.proofs.Stopping.{StopsByData}
@@ -50,10 +51,11 @@ document_excused t bits IsDone s stops = elim (nat_le (s.at + 8) bits) [
   | false ↦ record { source = refl; files = refl; memory = refl }
 ]
 document_excused t bits (Fails cause bit) s stops = record { source = refl; files = refl; memory = refl }
-document_excused t bits (Stopped Window quantity) s stops = record { source = refl; files = refl; memory = refl }
-document_excused t bits (Stopped Nodes quantity) s stops = record { source = refl; files = refl; memory = refl }
-document_excused t bits (Stopped Text quantity) s stops = record { source = refl; files = refl; memory = refl }
-document_excused t bits (Stopped cause quantity) s stops = absurd stops
+document_excused t bits (Stopped (halt.Limit Window) quantity) s stops = record { source = refl; files = refl; memory = refl }
+document_excused t bits (Stopped (halt.Limit Nodes) quantity) s stops = record { source = refl; files = refl; memory = refl }
+document_excused t bits (Stopped (halt.Limit Text) quantity) s stops = record { source = refl; files = refl; memory = refl }
+document_excused t bits (Stopped (halt.Limit cause) quantity) s stops = absurd stops
+document_excused t bits (Stopped (halt.Variable cause) bit) s stops = record { source = refl; files = refl; memory = refl }
 
 -- they come before what data comes to
 pub end_excused : (verb : Verb) (t : Table) (bytes : List ℕ) → Excuses (end_of verb t bytes)

@@ -9,6 +9,7 @@ pub mod Rankings
 pub mod Rests
 pub mod SlottedStops
 pub mod SoughtStops
+pub mod StatedStops
 pub mod Stopping
 pub mod Stops
 pub mod Tables

@@ -1,5 +1,5 @@
 -- What the loading of a schema comes to.
-use Rattle.std.proofs.Common.{◌≡◌, ◌⊎◌, ℕ, Bool, List, Result, Ok, Err, refl, sym, ap, subst}
+use Rattle.std.proofs.Common.{◌≡◌, ◌⊎◌, ℕ, List, Result, Ok, Err, refl, sym, ap, subst}
 use Rattle.std.proofs.Common.{inl, inr}
 use Rattle.dfdl_edge.specs.Files.{FilesSeen}
 use Rattle.dfdl_report.specs.declared.cause.LimitCause.{LimitCause}
@@ -10,10 +10,10 @@ use Rattle.dfdl_documents.specs.Loading.{document_at}
 use Rattle.dfdl_components.specs.Faults.{IsLoadedSchema, SchemaEndsBy, UnlessFiles}
 use Rattle.dfdl_components.specs.declared.fault.SchemaFault.{SchemaFault}
 use Rattle.dfdl_components.specs.declared.fault.SchemaFault.TheVariants as fault
-use Rattle.dfdl_components.specs.declared.site.Site.{Site}
+use Rattle.dfdl_compile.specs.Settling.{Free, nothing_free}
 use Rattle.dfdl_components.specs.Faults.{IsRefused}
 use Rattle.dfdl_components.specs.Rules.{AllKeep, loading_rules}
-use Rattle.dfdl_breaches.specs.Builds.{AreBuiltInPart, PatternsSeen, never}
+use Rattle.dfdl_breaches.specs.Builds.{AreBuiltInPart, PatternsSeen}
 use Rattle.dfdl_terms.specs.Rows.{Table}
 use Rattle.dfdl_compile.specs.Builds.{ComesTo}
 use Rattle.dfdl_compile.specs.Compiled.{Refused as Refuses, Limit as Passes}
@@ -33,17 +33,17 @@ breaks_one documents cause place name keeps refused =
 module _ (verb : Verb) (before after : FilesSeen) (seen now : PatternsSeen) (name : List ℕ) where
   -- there are rows, by the patterns that are refused
   abbrev pub Describes : Table → Type 0
-  Describes table = (refused : Site → Bool) × IsDescribed verb refused before after seen now name table
+  Describes table = (free : Free) × IsDescribed verb free before after seen now name table
 
   -- there are none
   abbrev pub Stops : Stop → Type 0
-  Stops stop = (refused : Site → Bool) × IsLoadFault verb refused before after seen now name stop
+  Stops stop = (free : Free) × IsLoadFault verb free before after seen now name stop
 
   -- the loaded documents come to these rows
   pub compiled_described : (documents : List SchemaDocument) (table : Table) → IsLoadedSchema before after (asked name) documents
       → ComesTo (purpose_of verb) documents most_depth most_rows seen now (Ok table) → Describes table
   compiled_described documents table loaded comes = (
-    comes.refused,
+    comes.free,
     record {
       documents = documents;
       loaded = record { are = loaded.loaded; seen = loaded.seen };
@@ -55,7 +55,7 @@ module _ (verb : Verb) (before after : FilesSeen) (seen now : PatternsSeen) (nam
   -- a schema that is not loaded
   fault_is : (fault : SchemaFault) → SchemaEndsBy before after (asked name) fault
       → UnlessFiles (let e : Result Table SchemaFault = Err fault in e) (after.faults ≡ before.faults) → now ≡ seen
-      → IsLoadFault verb never before after seen now name (schema_stop fault)
+      → IsLoadFault verb nothing_free before after seen now name (schema_stop fault)
   fault_is (fault.Files failed) ends still none = (ends, none)
   fault_is (fault.Doc cause place document) ends still none =
       (record { place = place; place_is = refl; refused = ends }, none)
@@ -72,7 +72,7 @@ module _ (verb : Verb) (before after : FilesSeen) (seen now : PatternsSeen) (nam
   pub fault_stops : (fault : SchemaFault) (stop : Stop) → stop ≡ schema_stop fault → SchemaEndsBy before after (asked name) fault
       → UnlessFiles (let e : Result Table SchemaFault = Err fault in e) (after.faults ≡ before.faults) → now ≡ seen → Stops stop
   fault_stops fault stop is ends still none =
-      subst Stops (sym is) (never, fault_is fault ends still none)
+      subst Stops (sym is) (nothing_free, fault_is fault ends still none)
 
   -- loaded documents that are refused, or want of memory for the name of one
   pub refused_fault : (documents : List SchemaDocument) (stop : Stop) (cause : SchemaCause) (place : Place)
@@ -81,7 +81,7 @@ module _ (verb : Verb) (before after : FilesSeen) (seen now : PatternsSeen) (nam
       → ComesTo (purpose_of verb) documents most_depth most_rows seen now (Err (Refuses cause place)) → Stops stop
   refused_fault documents stop cause place (inl is) loaded comes =
       subst Stops (sym is) (
-        comes.refused,
+        comes.free,
         record {
           documents = documents;
           loaded = record { are = loaded.loaded; seen = loaded.seen };
@@ -92,13 +92,13 @@ module _ (verb : Verb) (before after : FilesSeen) (seen now : PatternsSeen) (nam
       )
   refused_fault documents stop cause place (inr is) loaded comes =
       subst Stops (sym is) (
-        comes.refused,
+        comes.free,
         (
           ap (λ (f : FilesSeen). f.faults) loaded.seen,
           inr (record {
             documents = documents;
             loaded = record { are = loaded.loaded; seen = loaded.seen };
-            built = in_part (purpose_of verb) comes.refused documents seen now comes.built;
+            built = in_part (purpose_of verb) comes.free.refused documents seen now comes.built;
           }),
         ),
       )
@@ -109,7 +109,7 @@ module _ (verb : Verb) (before after : FilesSeen) (seen now : PatternsSeen) (nam
       → ComesTo (purpose_of verb) documents most_depth most_rows seen now (Err (Passes cause quantity)) → Stops stop
   limit_fault documents stop cause quantity is loaded comes =
       subst Stops (sym is) (
-        comes.refused,
+        comes.free,
         inr (record {
           documents = documents;
           loaded = record { are = loaded.loaded; seen = loaded.seen };
@@ -122,7 +122,7 @@ module _ (verb : Verb) (before after : FilesSeen) (seen now : PatternsSeen) (nam
   pub memory_fault : (documents : List SchemaDocument) → IsLoadedSchema before after (asked name) documents
       → AreBuiltInPart (purpose_of verb) documents seen now → Stops OutOfMemory
   memory_fault documents loaded part = (
-    never,
+    nothing_free,
     (
       ap (λ (f : FilesSeen). f.faults) loaded.seen,
       inr (record { documents = documents; loaded = record { are = loaded.loaded; seen = loaded.seen }; built = part }),

@@ -1,5 +1,5 @@
 -- What a run has decided is what is expected of it, or an end that comes before that.
-use Rattle.std.proofs.Common.{◌≡◌, ◌⊎◌, ℕ, zero, suc, ◌+◌, ◌<◌, ◌≤◌, Bool, IsTrue, List, length, Option, Some, IfSome, Ok}
+use Rattle.std.proofs.Common.{◌≡◌, ◌⊎◌, ℕ, zero, suc, ◌+◌, ◌<◌, ◌≤◌, IsTrue, List, length, Option, None, Some, IfSome, Result, Ok}
 use Rattle.std.proofs.Common.{Err, refl, sym, ap, subst, ◌∙◌, inl, inr, arith}
 use Rattle.dfdl_fronts.specs.Fronts.{IsPlace}
 use Rattle.dfdl_fronts.proofs.Places.{one_place}
@@ -35,7 +35,12 @@ use Rattle.dfdl_run.specs.Expects.{Expects, no_command, no_documents, no_schema,
 use Rattle.dfdl_run.specs.Expects.{meant, is_excused, most_input}
 use Rattle.dfdl_run.specs.Meaning.{end_of}
 use Rattle.dfdl_run.specs.Outside.{Inputs}
-use Rattle.dfdl_run.specs.Schemas.{AreDocuments, IsNoSchema, IsPast, IsSchemaOf, breaks, refuses, asked, stop_of}
+use Rattle.dfdl_expression_tree.specs.Readings as trees
+use Rattle.dfdl_expression_tree.specs.Trees.{Formula}
+use Rattle.dfdl_statements.specs.Texts.{IsReading, ReadsTexts}
+use Rattle.dfdl_compile.specs.Compiled.{CompileEnd, Laid, compiled, Refused as Refuses, Limit as Passes}
+use Rattle.dfdl_compile.specs.Settling.{CompilesTo, EndsWith, Free, Maps, SettlesIf}
+use Rattle.dfdl_run.specs.Schemas.{AreDocuments, IsNoSchema, IsPast, IsSchemaOf, breaks, most_depth, most_rows, purpose_of, refuses, asked, stop_of}
 use Rattle.dfdl_run.proofs.Excuses.{end_excused, limit_excused, limit_files}
 
 -- the end that was decided is the expected one, or one that comes before it
@@ -161,52 +166,81 @@ keeps_all : (documents : List SchemaDocument) (cause : SchemaCause) (place : Pla
 keeps_all documents cause place name keeps refused =
     let none = keeps refused.own refused.first.within in let some = refused.first.broken in cc
 
+-- what tells the trees of texts
+abbrev pub Reading : Type 0
+Reading = (read : List ℕ → Option Formula) × ReadsTexts read
+
+-- what a text has as its tree is the same where statements are settled
+same_reading : (text : List ℕ) (o : Option Formula) → trees.IsReading text o → IsReading text o
+same_reading text None is = is
+same_reading text (Some f) is = is
+
+pub reading_of : (read : List ℕ → Option Formula) → trees.ReadsTexts read → Reading
+reading_of read reads = (read, λ text. same_reading text (read text) (reads text))
+
+-- the same maps settle statements in one way
+settles_once : Reading → (maps : Option Maps) (documents : List SchemaDocument) (laid : Laid) (a b : Result Table CompileEnd)
+    → SettlesIf maps documents laid a → SettlesIf maps documents laid b → a ≡ b
+settles_once reading None documents laid a b first second = absurd first
+settles_once (read, reads) (Some maps) documents laid a b first second = sym (first.settles read reads) ∙ second.settles read reads
+
+ends_once : Reading → (maps : Option Maps) (documents : List SchemaDocument) (answer : Result Laid CompileEnd) (a b : Result Table CompileEnd)
+    → EndsWith maps documents answer a → EndsWith maps documents answer b → a ≡ b
+ends_once reading maps documents (Ok laid) a b first second = settles_once reading maps documents laid a b first second
+ends_once reading maps documents (Err why) a b first second = first ∙ sym second
+
+-- documents come to one end
+one_end : Reading → (verb : Verb) (free : Free) (documents : List SchemaDocument) (a b : Result Table CompileEnd)
+    → CompilesTo (purpose_of verb) free documents most_depth most_rows a → CompilesTo (purpose_of verb) free documents most_depth most_rows b → a ≡ b
+one_end reading verb free documents a b first second =
+    ends_once reading free.maps documents (compiled (purpose_of verb) free.refused documents most_depth most_rows) a b first second
+
 -- documents that are refused as a schema are refused in one way
-one_refused : (verb : Verb) (refused : Site → Bool) (documents : List SchemaDocument) (a b : SchemaCause) (document name : List ℕ) (at byte : ℕ)
-    → IsNoSchema verb refused documents a document at → IsNoSchema verb refused documents b name byte
+one_refused : Reading → (verb : Verb) (free : Free) (documents : List SchemaDocument) (a b : SchemaCause) (document name : List ℕ) (at byte : ℕ)
+    → IsNoSchema verb free documents a document at → IsNoSchema verb free documents b name byte
     → (let e : End = Err (Refused a document at) in e) ≡ Err (Refused b name byte)
-one_refused verb refused documents _ _ _ _ _ _ (breaks a p document first) (breaks b q name second) =
+one_refused reading verb free documents _ _ _ _ _ _ (breaks a p document first) (breaks b q name second) =
     alike a b document name p.at q.at (one_broken documents a b p q document name first second)
-one_refused verb refused documents _ _ _ _ _ _ (breaks a p document first) (refuses b q keeps is) =
+one_refused reading verb free documents _ _ _ _ _ _ (breaks a p document first) (refuses b q keeps is) =
     absurd (keeps_all documents a p document keeps first)
-one_refused verb refused documents _ _ _ _ _ _ (refuses a p keeps is) (breaks b q name second) =
+one_refused reading verb free documents _ _ _ _ _ _ (refuses a p keeps is) (breaks b q name second) =
     absurd (keeps_all documents b q name keeps second)
-one_refused verb refused documents _ _ _ _ _ _ (refuses a p keeps is) (refuses b q keeps' is') =
-    let both = sym is ∙ is' in cc
+one_refused reading verb free documents _ _ _ _ _ _ (refuses a p keeps is) (refuses b q keeps' is') =
+    let both = one_end reading verb free documents (Err (Refuses a p)) (Err (Refuses b q)) is is' in cc
 
 -- a schema is not refused
-no_refusal : (verb : Verb) (refused : Site → Bool) (documents : List SchemaDocument) (cause : SchemaCause) (document : List ℕ) (at : ℕ) (table : Table)
-    → IsNoSchema verb refused documents cause document at → IsSchemaOf verb refused documents table → ⊥
-no_refusal verb refused documents _ _ _ table (breaks cause place name broken) schema =
+no_refusal : Reading → (verb : Verb) (free : Free) (documents : List SchemaDocument) (cause : SchemaCause) (document : List ℕ) (at : ℕ) (table : Table)
+    → IsNoSchema verb free documents cause document at → IsSchemaOf verb free documents table → ⊥
+no_refusal reading verb free documents _ _ _ table (breaks cause place name broken) schema =
     keeps_all documents cause place name schema.keeps broken
-no_refusal verb refused documents _ _ _ table (refuses cause place keeps is) schema =
-    absurd (let both = sym is ∙ schema.compiled_is in cc)
+no_refusal reading verb free documents _ _ _ table (refuses cause place keeps is) schema =
+    absurd (let both = one_end reading verb free documents (Err (Refuses cause place)) (Ok table) is schema.compiled_is in cc)
 
 -- documents are a schema of one table of rows
-one_schema : (verb : Verb) (refused : Site → Bool) (documents : List SchemaDocument) (a b : Table) → IsSchemaOf verb refused documents a → IsSchemaOf verb refused documents b → a ≡ b
-one_schema verb refused documents a b first second = let both = sym first.compiled_is ∙ second.compiled_is in cc
+one_schema : Reading → (verb : Verb) (free : Free) (documents : List SchemaDocument) (a b : Table) → IsSchemaOf verb free documents a → IsSchemaOf verb free documents b → a ≡ b
+one_schema reading verb free documents a b first second = let both = one_end reading verb free documents (Ok a) (Ok b) first.compiled_is second.compiled_is in cc
 
 -- documents that pass a limit pass one
-one_past : (verb : Verb) (refused : Site → Bool) (documents : List SchemaDocument) (a b : LimitCause) (n m : ℕ) → IsPast verb refused documents a n → IsPast verb refused documents b m
+one_past : Reading → (verb : Verb) (free : Free) (documents : List SchemaDocument) (a b : LimitCause) (n m : ℕ) → IsPast verb free documents a n → IsPast verb free documents b m
     → (let e : End = Err (Limit a n) in e) ≡ Err (Limit b m)
-one_past verb refused documents a b n m first second = let both = sym first.compiled_is ∙ second.compiled_is in cc
+one_past reading verb free documents a b n m first second = let both = one_end reading verb free documents (Err (Passes a n)) (Err (Passes b m)) first.compiled_is second.compiled_is in cc
 
 -- documents that pass a limit are no schema
-no_past : (verb : Verb) (refused : Site → Bool) (documents : List SchemaDocument) (cause : LimitCause) (quantity : ℕ) (table : Table)
-    → IsPast verb refused documents cause quantity → IsSchemaOf verb refused documents table → ⊥
-no_past verb refused documents cause quantity table past schema = absurd (let both = sym past.compiled_is ∙ schema.compiled_is in cc)
+no_past : Reading → (verb : Verb) (free : Free) (documents : List SchemaDocument) (cause : LimitCause) (quantity : ℕ) (table : Table)
+    → IsPast verb free documents cause quantity → IsSchemaOf verb free documents table → ⊥
+no_past reading verb free documents cause quantity table past schema = absurd (let both = one_end reading verb free documents (Err (Passes cause quantity)) (Ok table) past.compiled_is schema.compiled_is in cc)
 
 -- and they are not refused
-past_refused : (verb : Verb) (refused : Site → Bool) (documents : List SchemaDocument) (cause : SchemaCause) (document : List ℕ) (at : ℕ) (limit : LimitCause) (quantity : ℕ)
-    → IsNoSchema verb refused documents cause document at → IsPast verb refused documents limit quantity → ⊥
-past_refused verb refused documents _ _ _ limit quantity (breaks cause place name broken) past =
+past_refused : Reading → (verb : Verb) (free : Free) (documents : List SchemaDocument) (cause : SchemaCause) (document : List ℕ) (at : ℕ) (limit : LimitCause) (quantity : ℕ)
+    → IsNoSchema verb free documents cause document at → IsPast verb free documents limit quantity → ⊥
+past_refused reading verb free documents _ _ _ limit quantity (breaks cause place name broken) past =
     keeps_all documents cause place name past.keeps broken
-past_refused verb refused documents _ _ _ limit quantity (refuses cause place keeps is) past =
-    absurd (let both = sym is ∙ past.compiled_is in cc)
+past_refused reading verb free documents _ _ _ limit quantity (refuses cause place keeps is) past =
+    absurd (let both = one_end reading verb free documents (Err (Refuses cause place)) (Err (Passes limit quantity)) is past.compiled_is in cc)
 
-module _ (loading : LoadingIsOne) (refused : Site → Bool) (before after : Inputs) where
+module _ (loading : LoadingIsOne) (reading : Reading) (free : Free) (before after : Inputs) where
   abbrev Fault : Verb → List ℕ → Stop → Type 0
-  Fault verb name stop = IsLoadFault verb refused before.files after.files before.patterns after.patterns name stop
+  Fault verb name stop = IsLoadFault verb free before.files after.files before.patterns after.patterns name stop
 
   -- the loading has ended in the way that is due, or by a failed load
   of_ends : (name : List ℕ) (found due : DocumentsFault) → EndsBy before.files after.files (asked name) found
@@ -263,9 +297,9 @@ module _ (loading : LoadingIsOne) (refused : Site → Bool) (before after : Inpu
       → AreTold before.files documents → AreDocuments before.files name documents
       → IsTrue (is_excused b 7) → IsTrue (is_excused b 9)
       → ((cause : SchemaCause) (document : List ℕ) (at : ℕ) → stop ≡ Refused cause document at
-      → IsNoSchema verb refused documents cause document at → Ranked before after (Err stop) b)
+      → IsNoSchema verb free documents cause document at → Ranked before after (Err stop) b)
       → ((cause : LimitCause) (quantity : ℕ) → stop ≡ Limit cause quantity
-      → IsPast verb refused documents cause quantity → Ranked before after (Err stop) b)
+      → IsPast verb free documents cause quantity → Ranked before after (Err stop) b)
       → Ranked before after (Err stop) b
   there_ranked verb name documents (FilesFailed failed) b fault_is told loaded seven nine refused_is past_is =
       loaded_ranked name documents (fault.Files failed) b fault_is.0 told loaded seven nine
@@ -274,14 +308,14 @@ module _ (loading : LoadingIsOne) (refused : Site → Bool) (before after : Inpu
       loaded_ranked name documents (fault.Limit cause quantity) b limit.0 told loaded seven nine
   there_ranked verb name documents (Limit cause quantity) b (inr past) told loaded seven nine refused_is past_is =
       past_is cause quantity refl
-      (subst (λ (ds : List SchemaDocument). IsPast verb refused ds cause quantity)
+      (subst (λ (ds : List SchemaDocument). IsPast verb free ds cause quantity)
       (loading.documents before.files (asked name) past.documents documents past.loaded.are loaded told) past.past)
   there_ranked verb name documents (NoDocument cause document at) b fault_is told loaded seven nine refused_is past_is =
       subst (λ (byte : ℕ). Ranked before after (Err (NoDocument cause document byte)) b) fault_is.0.place_is
       (loaded_ranked name documents (fault.Document cause fault_is.0.place document) b fault_is.0.refused told loaded seven nine)
   there_ranked verb name documents (Refused cause document at) b fault_is told loaded seven nine refused_is past_is =
       refused_is cause document at refl
-      (subst (λ (ds : List SchemaDocument). IsNoSchema verb refused ds cause document at)
+      (subst (λ (ds : List SchemaDocument). IsNoSchema verb free ds cause document at)
       (loading.documents before.files (asked name) fault_is.documents documents fault_is.loaded.are loaded told) fault_is.refusal)
   there_ranked verb name documents (Usage word) b fault_is told loaded seven nine refused_is past_is = absurd fault_is
   there_ranked verb name documents SourceFailed b fault_is told loaded seven nine refused_is past_is = absurd fault_is
@@ -333,7 +367,7 @@ module _ (loading : LoadingIsOne) (refused : Site → Bool) (before after : Inpu
   -- the words are an order, so that they have no place at which no command goes on
   module _ (words : List (List ℕ)) where
     at_words : (at : ℕ) (a b : End) → IsPlace IsCommand words at → a ≡ Err (Usage (at + 1))
-        → Expects words refused before b → Ranked before after a b
+        → Expects words free before b → Ranked before after a b
     at_words at a _ place is (no_command other place') =
         same (is
         ∙ ap (λ (n : ℕ). let e : End = Err (Usage (n + 1)) in e) (one_place IsCommand words at other place place'))
@@ -355,7 +389,7 @@ module _ (loading : LoadingIsOne) (refused : Site → Bool) (before after : Inpu
         (subst (λ (n : List ℕ). Fault order.verb n stop) (orders_schema words order other orders others) fault_is)
 
     at_schema : (order : Order) (stop : Stop) (b : End) → Orders words order
-        → Fault order.verb order.schema stop → Expects words refused before b → Ranked before after (Err stop) b
+        → Fault order.verb order.schema stop → Expects words free before b → Ranked before after (Err stop) b
     at_schema order stop _ orders fault_is (no_command at place) =
         absurd (place.no_text (order, orders))
     at_schema order stop _ orders fault_is (no_documents other due others expects) =
@@ -363,40 +397,40 @@ module _ (loading : LoadingIsOne) (refused : Site → Bool) (before after : Inpu
     at_schema order stop _ orders fault_is (no_schema other documents cause document byte others told loaded wrong) =
         there_ranked other.verb other.schema documents stop _ (renamed order other stop orders others fault_is) told loaded refl refl
         (λ found name at is one. same (ap (λ (s : Stop). let e : End = Err s in e) is
-        ∙ one_refused other.verb refused documents found cause name document at byte one wrong))
-        (λ limit quantity is past. absurd (past_refused other.verb refused documents cause document byte limit quantity wrong past))
+        ∙ one_refused reading other.verb free documents found cause name document at byte one wrong))
+        (λ limit quantity is past. absurd (past_refused reading other.verb free documents cause document byte limit quantity wrong past))
     at_schema order stop _ orders fault_is (no_rows other documents cause quantity others told loaded past) =
         there_ranked other.verb other.schema documents stop _ (renamed order other stop orders others fault_is) told loaded
         (limit_files cause quantity) (limit_excused cause quantity)
-        (λ found name at is one. absurd (past_refused other.verb refused documents found name at cause quantity one past))
+        (λ found name at is one. absurd (past_refused reading other.verb free documents found name at cause quantity one past))
         (λ limit number is other_past. same (ap (λ (s : Stop). let e : End = Err s in e) is
-        ∙ one_past other.verb refused documents limit cause number quantity other_past past))
+        ∙ one_past reading other.verb free documents limit cause number quantity other_past past))
     at_schema order stop _ orders fault_is (long_input other documents table bytes others told loaded schema input_is long) =
         there_ranked other.verb other.schema documents stop _ (renamed order other stop orders others fault_is) told loaded refl refl
-        (λ found name at is one. absurd (no_refusal other.verb refused documents found name at table one schema))
-        (λ limit quantity is past. absurd (no_past other.verb refused documents limit quantity table past schema))
+        (λ found name at is one. absurd (no_refusal reading other.verb free documents found name at table one schema))
+        (λ limit quantity is past. absurd (no_past reading other.verb free documents limit quantity table past schema))
     at_schema order stop _ orders fault_is (meant other documents table bytes others told loaded schema input_is few) =
         there_ranked other.verb other.schema documents stop _ (renamed order other stop orders others fault_is) told loaded
         (end_excused other.verb table bytes).files (end_excused other.verb table bytes).memory
-        (λ found name at is one. absurd (no_refusal other.verb refused documents found name at table one schema))
-        (λ limit quantity is past. absurd (no_past other.verb refused documents limit quantity table past schema))
+        (λ found name at is one. absurd (no_refusal reading other.verb free documents found name at table one schema))
+        (λ limit quantity is past. absurd (no_past reading other.verb free documents limit quantity table past schema))
 
     -- the loaded documents are a schema, where another order of the same words has all of them
     schema_of : (order other : Order) (table : Table) (documents : List SchemaDocument)
         → Orders words order → Orders words other
-        → IsDescribed order.verb refused before.files after.files before.patterns after.patterns order.schema table
+        → IsDescribed order.verb free before.files after.files before.patterns after.patterns order.schema table
         → AreTold before.files documents → AreDocuments before.files other.schema documents
-        → IsSchemaOf other.verb refused documents table
+        → IsSchemaOf other.verb free documents table
     schema_of order other table documents orders others found told loaded =
-        subst (λ (v : Verb). IsSchemaOf v refused documents table) (orders_verb words order other orders others)
-        (subst (λ (ds : List SchemaDocument). IsSchemaOf order.verb refused ds table)
+        subst (λ (v : Verb). IsSchemaOf v free documents table) (orders_verb words order other orders others)
+        (subst (λ (ds : List SchemaDocument). IsSchemaOf order.verb free ds table)
         (loading.documents before.files (asked other.schema) found.documents documents
         (subst (λ (n : List ℕ). AreDocuments before.files n found.documents) (orders_schema words order other orders others) found.loaded.are) loaded told)
         found.schema)
 
     at_data : (order : Order) (table : Table) (a b : End) → Orders words order
-        → IsDescribed order.verb refused before.files after.files before.patterns after.patterns order.schema table
-        → IsReadEnd order.verb table before.source after.source a → Expects words refused before b
+        → IsDescribed order.verb free before.files after.files before.patterns after.patterns order.schema table
+        → IsReadEnd order.verb table before.source after.source a → Expects words free before b
         → Ranked before after a b
     at_data order table a _ orders found read (no_command at place) =
         absurd (place.no_text (order, orders))
@@ -404,19 +438,19 @@ module _ (loading : LoadingIsOne) (refused : Site → Bool) (before after : Inpu
         absurd (loading.no_fault_due before.files (asked other.schema) found.documents due
         (subst (λ (n : List ℕ). AreDocuments before.files n found.documents) (orders_schema words order other orders others) found.loaded.are) expects)
     at_data order table a _ orders found read (no_schema other documents cause document byte others told loaded wrong) =
-        absurd (no_refusal other.verb refused documents cause document byte table wrong (schema_of order other table documents orders others found told loaded))
+        absurd (no_refusal reading other.verb free documents cause document byte table wrong (schema_of order other table documents orders others found told loaded))
     at_data order table a _ orders found read (no_rows other documents cause quantity others told loaded past) =
-        absurd (no_past other.verb refused documents cause quantity table past (schema_of order other table documents orders others found told loaded))
+        absurd (no_past reading other.verb free documents cause quantity table past (schema_of order other table documents orders others found told loaded))
     at_data order table a _ orders found read (long_input other documents table' bytes others told loaded schema input_is long) =
         long_ranked bytes order.verb table a long input_is read
     at_data order table a _ orders found read (meant other documents table' bytes others told loaded schema input_is few) =
         let same_table : table ≡ table' =
-        one_schema other.verb refused documents table table' (schema_of order other table documents orders others found told loaded) schema in
+        one_schema reading other.verb free documents table table' (schema_of order other table documents orders others found told loaded) schema in
         subst (λ (v : Verb). Ranked before after a (end_of v table' bytes)) (orders_verb words order other orders others)
         (subst (λ (t : Table). Ranked before after a (end_of order.verb t bytes)) same_table
         (meant_ranked bytes order.verb table a few input_is read))
 
-    pub ranked : (a b : End) → Decided words refused before after a → Expects words refused before b
+    pub ranked : (a b : End) → Decided words free before after a → Expects words free before b
         → Ranked before after a b
     ranked a b (by_words at place is untouched) expects = at_words at a b place is expects
     ranked a b (by_schema order stop orders is fault_is loads unread) expects =

@@ -1,5 +1,5 @@
 -- Searches for texts and tests of patterns stop by a limit on data alone.
-use Rattle.std.proofs.Common.{ℕ, ◌+◌, ◌-◌, nat_eq, nat_lt, ◌&&◌, true, false, Bool, if◌then◌else◌, List, [], ◌∷◌, ◌++◌, length, Option, None, Some, slice_get}
+use Rattle.std.proofs.Common.{ℕ, ◌+◌, ◌-◌, nat_eq, nat_lt, ◌&&◌, true, false, Bool, if◌then◌else◌, List, [], ◌∷◌, ◌++◌, length, Option}
 use Rattle.dfdl_report.specs.declared.cause.ParseCause.{ParseCause}
 use Rattle.dfdl_report.specs.declared.cause.ParseCause.TheVariants.{InitiatorMissing, SeparatorMissing, TerminatorMissing}
 use Rattle.dfdl_looks.specs.Asks.{Reached, Told, TooFar, Missing, ask}
@@ -8,7 +8,7 @@ use Rattle.dfdl_looks.specs.Tallies.{nothing}
 use Rattle.dfdl_delims.specs.Lists.{Opened}
 use Rattle.dfdl_delims.specs.Longest.{Longest, Text as FoundText, NoText}
 use Rattle.dfdl_texts.specs.Texts.{Text as TextRead}
-use Rattle.dfdl_terms.specs.declared.asserting.PatternTest.{PatternTest}
+use Rattle.dfdl_terms.specs.declared.statement.PatternTest.{PatternTest}
 use Rattle.dfdl_terms.specs.declared.delimiters.Delimiter.{Delimiter}
 use Rattle.dfdl_terms.specs.declared.delimiters.Delimiters.{Delimiters}
 use Rattle.dfdl_grammar.specs.declared.end.End.{End}
@@ -19,7 +19,7 @@ use Rattle.dfdl_grammar.specs.Outcomes.{Outcome, ended}
 use Rattle.dfdl_grammar.specs.Leaves.{text_sought}
 use Rattle.dfdl_grammar.specs.Framing.{aligned}
 use Rattle.dfdl_grammar.specs.Delimiters.{found_initiator, initiator, lists_of, markup, numbers_of, passed_text, seek, separator, sought_among, stands_in, terminator}
-use Rattle.dfdl_grammar.specs.Tests.{characters_in, land_test, matches, test, test_of, tested}
+use Rattle.dfdl_grammar.specs.Tests.{characters_in, land_test, matches, test, tested}
 use Rattle.dfdl_run.proofs.Stopping.{StopsByData}
 
 text-stops : (cause : ParseCause) (window bits : ℕ) (s : State) (is : Bool)
@@ -70,21 +70,17 @@ terminator-stops input delimiters delimiter separators s =
 pub separator-stops : (input : Input) (delimiters : List Delimiters) (s : State) → StopsByData (separator input delimiters s).end
 separator-stops input delimiters s = seek-stops input SeparatorMissing (lists_of delimiters (markup s)) (length (markup s) - 1) s
 
-tested-stops : (test : PatternTest) (number : ℕ) (is : Bool) (s : State) → StopsByData (tested test number is s).end
-tested-stops test number true s = tt
-tested-stops test number false s = tt
+pub tested-stops : (discriminates : Bool) (number : ℕ) (holds : Bool) (s : State) → StopsByData (tested discriminates number holds s).end
+tested-stops discriminates number true s = tt
+tested-stops discriminates number false s = tt
 
 land-test-stops : (limits : Limits) (test : PatternTest) (number : ℕ) (reached : Reached TextRead) (s : State)
     → StopsByData (land_test limits test number reached s).end
-land-test-stops limits test number (Told text) s = tested-stops test number (matches test.form (characters_in text)) s
+land-test-stops limits test number (Told text) s = tested-stops test.discriminates number (matches test.form (characters_in text)) s
 land-test-stops limits test number TooFar s = tt
 land-test-stops limits test number Missing s = tt
 
-test-of-stops : (input : Input) (number : ℕ) (test : Option PatternTest) (s : State) → StopsByData (test_of input number test s).end
-test-of-stops input number None s = tt
-test-of-stops input number (Some test) s =
-    land-test-stops input.limits test number
-    (ask (seen_in input.bytes input.limits.window (anchor s)) (text_sought test.form (aligned 8 s.at) s.stop) nothing).reached s
-
-pub test-stops : (input : Input) (tests : List PatternTest) (number : ℕ) (s : State) → StopsByData (test input tests number s).end
-test-stops input tests number s = test-of-stops input number (slice_get tests number) s
+pub test-stops : (input : Input) (number : ℕ) (pattern : PatternTest) (s : State) → StopsByData (test input number pattern s).end
+test-stops input number pattern s =
+    land-test-stops input.limits pattern number
+    (ask (seen_in input.bytes input.limits.window (anchor s)) (text_sought pattern.form (aligned 8 s.at) s.stop) nothing).reached s

@@ -1,19 +1,21 @@
--- What stops work is a limit on data.
-use Rattle.dfdl_report.specs.declared.cause.LimitCause.{LimitCause}
+-- What stops work is a limit on data, or a variable that can't be set.
 use Rattle.dfdl_report.specs.declared.cause.LimitCause.TheVariants.{Window, Nodes, Text}
+use Rattle.dfdl_grammar.specs.declared.end.Halt.{Halt}
+use Rattle.dfdl_grammar.specs.declared.end.Halt.TheVariants.{Limit, Variable}
 use Rattle.dfdl_grammar.specs.declared.end.End.{End}
 use Rattle.dfdl_grammar.specs.declared.end.End.TheVariants.{Done, Failed, Stopped}
 use Rattle.dfdl_grammar.specs.States.{State}
 use Rattle.dfdl_grammar.specs.Outcomes.{Outcome}
 
--- a limit on data
-abbrev pub IsOfData : LimitCause → Type 0
-IsOfData Window = Unit {0}
-IsOfData Nodes = Unit {0}
-IsOfData Text = Unit {0}
-IsOfData _ = ⊥
+-- a limit on data, or a variable that can't be set
+abbrev pub IsOfData : Halt → Type 0
+IsOfData (Limit Window) = Unit {0}
+IsOfData (Limit Nodes) = Unit {0}
+IsOfData (Limit Text) = Unit {0}
+IsOfData (Limit _) = ⊥
+IsOfData (Variable cause) = Unit {0}
 
--- where work is stopped, it is by a limit on data
+-- where work is stopped, it is by one of these
 abbrev pub StopsByData : End → Type 0
 StopsByData Done = Unit {0}
 StopsByData (Failed cause bit) = Unit {0}

@@ -1,6 +1,6 @@
--- A document stops by a limit on data alone.
-use Rattle.std.proofs.Common.{ℕ, zero, suc, ◌+◌, ◌-◌, ◌*◌, ◌/◌, nat_eq, nat_le, nat_lt, true, false, Bool, if◌then◌else◌, List, [], ◌∷◌, ◌++◌, length, Option, None, Some, slice_get, replicate}
-use Rattle.dfdl_report.specs.declared.cause.LimitCause.TheVariants.{Nodes, Text}
+-- A document stops by a limit on data, or a variable that can't be set, alone.
+use Rattle.std.proofs.Common.{ℕ, zero, suc, ◌+◌, ◌-◌, ◌*◌, ◌/◌, nat_eq, nat_le, nat_lt, true, false, Bool, if◌then◌else◌, List, [], ◌∷◌, length, Option, None, Some, slice_get, replicate}
+use Rattle.dfdl_report.specs.declared.cause.LimitCause.TheVariants.{Nodes}
 use Rattle.dfdl_report.specs.declared.cause.ParseCause.TheVariants.{LengthOutOfRange}
 use Rattle.dfdl_looks.specs.Asks.{Reached, Told, TooFar, Missing, ask}
 use Rattle.dfdl_looks.specs.Looks.{seen_in}
@@ -12,23 +12,22 @@ use Rattle.dfdl_terms.specs.declared.row.Primitive.{Primitive}
 use Rattle.dfdl_terms.specs.declared.representations.Representations.{Representations}
 use Rattle.dfdl_terms.specs.declared.row.Row.{Row}
 use Rattle.dfdl_terms.specs.declared.text.TextSize.{TextSize}
-use Rattle.dfdl_terms.specs.declared.row.Row.TheVariants.{Leaf, Elem, Group, Skip, Align, Initiator, Terminator, Separator, Scope, Boxed, PrefixedLeaf, PrefixedBox, Repeat, Optional, Choice as ChoiceRow, Test, Hidden, Separated}
-use Rattle.dfdl_region.specs.declared.node.Content.{Content}
-use Rattle.dfdl_region.specs.declared.node.Content.TheVariants as content
-use Rattle.dfdl_region.specs.Nodes.{with_content}
+use Rattle.dfdl_terms.specs.declared.row.Row.TheVariants.{Leaf, Elem, Group, Skip, Align, Initiator, Terminator, Separator, Scope, Boxed, PrefixedLeaf, PrefixedBox, Repeat, Optional, Choice as ChoiceRow, Statement, Concluded, Hidden, Separated}
 use Rattle.dfdl_grammar.specs.declared.end.End.{End}
 use Rattle.dfdl_grammar.specs.declared.end.End.TheVariants.{Done, Failed, Stopped}
+use Rattle.dfdl_grammar.specs.declared.end.Halt.TheVariants.{Limit}
 use Rattle.dfdl_grammar.specs.declared.instead.Instead.{Instead}
 use Rattle.dfdl_grammar.specs.declared.instead.Instead.TheVariants.{Nothing, Nil, Empty}
 use Rattle.dfdl_grammar.specs.declared.limits.Limits.{Limits}
 use Rattle.dfdl_grammar.specs.declared.mark.Mark.{Mark}
 use Rattle.dfdl_grammar.specs.States.{Input, State, anchor, anchor_at}
-use Rattle.dfdl_grammar.specs.Outcomes.{Outcome, ended, follow, spend, then_do}
+use Rattle.dfdl_grammar.specs.Outcomes.{Outcome, ended, spend, then_do}
 use Rattle.dfdl_grammar.specs.Leaves.{Find, Fails, Finds, FindsOctets, FindsText, content_begins, has_room, land, leaf, nil_values, program, program_for, read_by}
 use Rattle.dfdl_grammar.specs.Framing.{aligned, fill_to, has_byte, pass_to, passed}
 use Rattle.dfdl_grammar.specs.Delimiters.{lists_of, markup, opens, scoped, unscoped}
 use Rattle.dfdl_grammar.specs.Boxes.{boxed_at, bytes_up_to, pass_bytes, past_byte, rest as rest_of, unboxed}
-use Rattle.dfdl_grammar.specs.Elements.{attempted, begun, close, has_elements}
+use Rattle.dfdl_paths.specs.declared.place.Start.TheVariants.{At, Inside}
+use Rattle.dfdl_grammar.specs.Elements.{attempted, begun, close, element, has_elements}
 use Rattle.dfdl_grammar.specs.Marks.{back, closed, is_settled, marked, pointed, stays_at}
 use Rattle.dfdl_grammar.specs.Choices.{branches, choice, or_branch}
 use Rattle.dfdl_grammar.specs.Occurrences.{after_occurrence, dropped, occurrences}
@@ -39,26 +38,8 @@ use Rattle.dfdl_grammar.specs.Rows.{below, group, meaning, row, row_at}
 use Rattle.dfdl_grammar.specs.Documents.{document}
 use Rattle.dfdl_run.proofs.Stopping.{StopsByData}
 use Rattle.dfdl_run.proofs.SlottedStops.{separated-stops}
-use Rattle.dfdl_run.proofs.SoughtStops.{initiator-stops, separator-stops, terminator-stops, test-stops}
-
-hold-stops : (most : ℕ) (made : ℕ → ℕ → Content) (bytes : List ℕ) (end : ℕ) (s : State) (room : Bool)
-    → StopsByData (let whole : Outcome = (if room then ended Done (record s {
-      at = end;
-      text = s.text ++ bytes;
-      nodes = with_content s.nodes s.inside (made (length s.text) (length bytes));
-    }) else ended (Stopped Text most) s) in whole.end)
-hold-stops most made bytes end s true = tt
-hold-stops most made bytes end s false = tt
-
-land-stops : (limits : Limits) (first : ℕ) (reached : Reached Find) (s : State) → StopsByData (land limits first reached s).end
-land-stops limits first (Told (Fails cause)) s = tt
-land-stops limits first (Told (Finds content end)) s = tt
-land-stops limits first (Told (FindsOctets bytes end)) s =
-    hold-stops limits.text content.Octets bytes end s (nat_le (length s.text + length bytes) limits.text)
-land-stops limits first (Told (FindsText bytes end)) s =
-    hold-stops limits.text content.Text bytes end s (nat_le (length s.text + length bytes) limits.text)
-land-stops limits first TooFar s = tt
-land-stops limits first Missing s = tt
+use Rattle.dfdl_run.proofs.SoughtStops.{initiator-stops, separator-stops, terminator-stops}
+use Rattle.dfdl_run.proofs.StatedStops.{concluded-stops, follow-stops, land-stops, statement-stops}
 
 room-stops : (input : Input) (delimiters : List Delimiters) (nil : Option (List Value)) (primitive : Primitive) (s : State) (room : Bool)
     → StopsByData (let whole : Outcome = (if room then
@@ -111,12 +92,6 @@ rest-stops : (input : Input) (s : State) (over : Bool)
 rest-stops input s true = tt
 rest-stops input s false = bytes-stop input (bytes_up_to s.stop (s.at / 8)) (s.at / 8) s
 
-follow-stops : (end : End) (o : Outcome) (next : State → Outcome) → StopsByData o.end
-    → ((s : State) → StopsByData (next s).end) → StopsByData (follow end o next).end
-follow-stops Done o next own after = after o.state
-follow-stops (Failed cause bit) o next own after = own
-follow-stops (Stopped cause quantity) o next own after = own
-
 group-stops : (child : ℕ → State → Outcome) → ((id : ℕ) (s : State) → StopsByData (child id s).end)
     → (ids : List ℕ) (s : State) → StopsByData (group child ids s).end
 group-stops child each [] s = tt
@@ -133,7 +108,7 @@ attempted-stops : (input : Input) (id : ℕ) (complex : Bool) (body : State → 
     → ((s : State) → StopsByData (body s).end) → (instead : Instead) (s : State) → StopsByData (attempted input id complex body instead s).end
 attempted-stops input id complex body each instead s = elim (nat_lt (length s.nodes) input.limits.nodes) as (λ (b : Bool).
     StopsByData (let whole : Outcome = (if b then (let o : Outcome = body (begun id instead s) in close o.end s.inside complex o)
-    else ended (Stopped Nodes input.limits.nodes) s) in whole.end)) [
+    else ended (Stopped (Limit Nodes) input.limits.nodes) s) in whole.end)) [
       | true ↦ close-stops (body (begun id instead s)).end s.inside complex (body (begun id instead s)) (each (begun id instead s))
       | false ↦ tt
     ]
@@ -306,13 +281,16 @@ row-stops : (input : Input) (table : Table) (child : ℕ → State → Outcome) 
 row-stops input table child each id None s = tt
 row-stops input table child each id (Some (Leaf prim)) s =
     leaf-stops input table.delimiters (nil_values table.primitives s.instead) (slice_get table.primitives (read_by table.primitives s.instead prim)) s
-row-stops input table child each id (Some (Elem name simple tried body)) s =
-    represented-stops tried (attempted input id (has_elements simple) (child body)) (attempted-stops input id (has_elements simple) (child body) (each body)) s
+row-stops input table child each id (Some (Elem name simple tried behind body)) s =
+    concluded-stops input.limits table (At (length s.nodes)) behind (element input id (has_elements simple) tried (child body) s)
+    (represented-stops tried (attempted input id (has_elements simple) (child body)) (attempted-stops input id (has_elements simple) (child body) (each body)) s)
 row-stops input table child each id (Some (Group children)) s = group-stops child each children s
 row-stops input table child each id (Some (Repeat count body)) s = group-stops child each (replicate count body) s
 row-stops input table child each id (Some (Optional most item initiated body)) s = occurrences-stop (child body) (each body) initiated most s
 row-stops input table child each id (Some (ChoiceRow ids initiated)) s = choice-stops child each initiated ids s
-row-stops input table child each id (Some (Test number)) s = test-stops input table.tests number s
+row-stops input table child each id (Some (Statement number)) s = statement-stops input table number s
+row-stops input table child each id (Some (Concluded behind body)) s =
+    concluded-stops input.limits table (Inside s.inside) behind (child body s) (each body s)
 row-stops input table child each id (Some (Hidden body)) s = each body s
 row-stops input table child each id (Some (Separated policy position initiated slots)) s =
     let sequence : Sequence =

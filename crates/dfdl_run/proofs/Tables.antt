@@ -9,7 +9,7 @@ use Rattle.dfdl_terms.specs.Rows.{Table}
 use Rattle.dfdl_terms.specs.declared.row.Primitive.{Primitive}
 use Rattle.dfdl_terms.specs.declared.row.Primitive.TheVariants.{Integer, Packed, Truth, Octets, Text, NilOctets, Default, NilValues, Pattern}
 use Rattle.dfdl_terms.specs.declared.row.Row.{Row}
-use Rattle.dfdl_terms.specs.declared.row.Row.TheVariants.{Leaf, Elem, Group, Skip, Align, Initiator, Terminator, Separator, Scope, Boxed, PrefixedLeaf, PrefixedBox, Repeat, Optional, Choice, Test, Hidden, Separated}
+use Rattle.dfdl_terms.specs.declared.row.Row.TheVariants.{Leaf, Elem, Group, Skip, Align, Initiator, Terminator, Separator, Scope, Boxed, PrefixedLeaf, PrefixedBox, Repeat, Optional, Choice, Statement, Concluded, Hidden, Separated}
 use Rattle.dfdl_checks.specs.Forms.{IsWhole, IsWholeUnsigned}
 use Rattle.dfdl_compile.specs.Primitives.{HasBareTypedLeaves, IsLeafOfType, IsOfType}
 use Rattle.dfdl_pieces.specs.Laying.{form_in, integer_form}
@@ -62,7 +62,7 @@ whole_in primitives prim simple (Some (Pattern form)) is wholes typed = absurd (
 whole_row : (t : Table) → All IsWhole t.primitives → (simple : Simple) (o : Option Row) → IsLeafOfType t.primitives simple o
     → IsWholeForm simple (form_in t o)
 whole_row t wholes simple (Some (Leaf prim)) leaf = whole_in t.primitives prim simple (slice_get t.primitives prim) refl wholes leaf
-whole_row t wholes simple (Some (Elem name other tried body)) leaf = absurd leaf
+whole_row t wholes simple (Some (Elem name other tried behind body)) leaf = absurd leaf
 whole_row t wholes simple (Some (Group children)) leaf = absurd leaf
 whole_row t wholes simple (Some (Skip bits)) leaf = absurd leaf
 whole_row t wholes simple (Some (Align bits)) leaf = absurd leaf
@@ -76,14 +76,15 @@ whole_row t wholes simple (Some (PrefixedBox prefix body)) leaf = absurd leaf
 whole_row t wholes simple (Some (Repeat count body)) leaf = absurd leaf
 whole_row t wholes simple (Some (Optional most item initiated body)) leaf = absurd leaf
 whole_row t wholes simple (Some (Choice branches initiated)) leaf = absurd leaf
-whole_row t wholes simple (Some (Test test)) leaf = absurd leaf
+whole_row t wholes simple (Some (Statement statement)) leaf = absurd leaf
+whole_row t wholes simple (Some (Concluded behind body)) leaf = absurd leaf
 whole_row t wholes simple (Some (Hidden body)) leaf = absurd leaf
 whole_row t wholes simple (Some (Separated policy position initiated slots)) leaf = absurd leaf
 whole_row t wholes simple None leaf = absurd leaf
 
 -- rows whose simple elements have leaves of their types, which are all whole
 pub whole : (t : Table) → HasBareTypedLeaves t → All IsWhole t.primitives → AreWholeFields t
-whole t leaves wholes row name kind tried body is = whole_row t wholes kind (slice_get t.rows body) (leaves row name kind tried body is)
+whole t leaves wholes row name kind tried behind body is = whole_row t wholes kind (slice_get t.rows body) (leaves row name kind tried behind body is)
 
 -- two facts of what is answered give a third
 pub both_ok : {X E : Type 0} (A B C : X → Type 0) → ((x : X) → A x → B x → C x) → (r : Result X E) → IfOk r A → IfOk r B → IfOk r C

@@ -1,5 +1,5 @@
 -- What a run has found out before it writes anything.
-use Rattle.std.specs.Prelude.{◌≡◌, ◌⊎◌, ℕ, ◌+◌, ◌≤◌, Bool, List, length, IfSome, Ok, Err}
+use Rattle.std.specs.Prelude.{◌≡◌, ◌⊎◌, ℕ, ◌+◌, ◌≤◌, List, length, IfSome, Ok, Err}
 use Rattle.dfdl_fronts.specs.Fronts.{IsPlace}
 use Rattle.dfdl_edge.specs.Faults.{Rose}
 use Rattle.dfdl_edge.specs.Files.{FilesSeen}
@@ -15,7 +15,7 @@ use Rattle.dfdl_documents.specs.Documents.{SchemaDocument}
 use Rattle.dfdl_documents.specs.Loading.{IsCounted, after_loads}
 use Rattle.dfdl_documents.specs.Faults.{IsFailed, IsLimit, IsNoDocument}
 use Rattle.dfdl_components.specs.Rules.{AllKeep, loading_rules}
-use Rattle.dfdl_components.specs.declared.site.Site.{Site}
+use Rattle.dfdl_compile.specs.Settling.{Free}
 use Rattle.dfdl_breaches.specs.Builds.{AreAllBuilt, AreBuiltInPart, PatternsSeen}
 use Rattle.dfdl_terms.specs.Rows.{Table}
 use Rattle.dfdl_run.specs.declared.stop.Stop.{Stop}
@@ -37,30 +37,30 @@ pub record AreLoadedOnce (before after : FilesSeen) (name : List ℕ) (documents
   pub seen : after ≡ after_loads (length documents) before
 
 -- the documents are loaded, the patterns of their elements built, of which these are refused, and they are a schema of these rows
-pub record IsDescribed (verb : Verb) (refused : Site → Bool) (before after : FilesSeen) (seen now : PatternsSeen) (name : List ℕ)
+pub record IsDescribed (verb : Verb) (free : Free) (before after : FilesSeen) (seen now : PatternsSeen) (name : List ℕ)
     (table : Table) : Type 0 where
   pub documents : List SchemaDocument
   pub loaded : AreLoadedOnce before after name documents
-  pub built : AreAllBuilt (purpose_of verb) refused documents seen now
-  pub schema : IsSchemaOf verb refused documents table
+  pub built : AreAllBuilt (purpose_of verb) free.refused documents seen now
+  pub schema : IsSchemaOf verb free documents table
 
 -- the documents are loaded, and refused as a schema at this byte of the document of this name; where they keep the rules of loading the
 -- patterns of their elements were built, of which these are refused, else none was
-pub record IsRefusedSchema (verb : Verb) (refused : Site → Bool) (before after : FilesSeen) (seen now : PatternsSeen) (name : List ℕ)
+pub record IsRefusedSchema (verb : Verb) (free : Free) (before after : FilesSeen) (seen now : PatternsSeen) (name : List ℕ)
     (cause : SchemaCause) (document : List ℕ) (at : ℕ) : Type 0 where
   pub documents : List SchemaDocument
   pub loaded : AreLoadedOnce before after name documents
-  pub built : AllKeep (loading_rules documents) documents → AreAllBuilt (purpose_of verb) refused documents seen now
+  pub built : AllKeep (loading_rules documents) documents → AreAllBuilt (purpose_of verb) free.refused documents seen now
   pub unbuilt : (AllKeep (loading_rules documents) documents → ⊥) → now ≡ seen
-  pub refusal : IsNoSchema verb refused documents cause document at
+  pub refusal : IsNoSchema verb free documents cause document at
 
 -- the documents are loaded, the patterns of their elements built, of which these are refused, and their components pass a limit
-pub record IsPastLimit (verb : Verb) (refused : Site → Bool) (before after : FilesSeen) (seen now : PatternsSeen) (name : List ℕ)
+pub record IsPastLimit (verb : Verb) (free : Free) (before after : FilesSeen) (seen now : PatternsSeen) (name : List ℕ)
     (cause : LimitCause) (quantity : ℕ) : Type 0 where
   pub documents : List SchemaDocument
   pub loaded : AreLoadedOnce before after name documents
-  pub built : AreAllBuilt (purpose_of verb) refused documents seen now
-  pub past : IsPast verb refused documents cause quantity
+  pub built : AreAllBuilt (purpose_of verb) free.refused documents seen now
+  pub past : IsPast verb free documents cause quantity
 
 -- the documents are loaded, and the patterns of some of their elements built
 pub record AreBuiltOnce (verb : Verb) (before after : FilesSeen) (seen now : PatternsSeen) (name : List ℕ) : Type 0 where
@@ -76,19 +76,19 @@ pub record IsUnreadable (before after : FilesSeen) (name : List ℕ) (cause : Do
   pub refused : IsNoDocument before after (asked name) cause place document
 
 -- there is no schema, for what stops the run
-abbrev pub IsLoadFault : Verb → (Site → Bool) → FilesSeen → FilesSeen → PatternsSeen → PatternsSeen → List ℕ → Stop → Type 0
-IsLoadFault verb refused before after seen now name (FilesFailed failed) = IsFailed before after (asked name) failed × (now ≡ seen)
-IsLoadFault verb refused before after seen now name OutOfMemory =
+abbrev pub IsLoadFault : Verb → Free → FilesSeen → FilesSeen → PatternsSeen → PatternsSeen → List ℕ → Stop → Type 0
+IsLoadFault verb free before after seen now name (FilesFailed failed) = IsFailed before after (asked name) failed × (now ≡ seen)
+IsLoadFault verb free before after seen now name OutOfMemory =
     (after.faults ≡ before.faults) × ((now ≡ seen) ⊎ AreBuiltOnce verb before after seen now name)
-IsLoadFault verb refused before after seen now name (Limit cause quantity) =
+IsLoadFault verb free before after seen now name (Limit cause quantity) =
     (IsLimit before after (asked name) cause quantity × (now ≡ seen))
-    ⊎ IsPastLimit verb refused before after seen now name cause quantity
-IsLoadFault verb refused before after seen now name (NoDocument cause document at) =
+    ⊎ IsPastLimit verb free before after seen now name cause quantity
+IsLoadFault verb free before after seen now name (NoDocument cause document at) =
     IsUnreadable before after name cause document at × (now ≡ seen)
-IsLoadFault verb refused before after seen now name (Refused cause document at) =
-    IsRefusedSchema verb refused before after seen now name cause document at
-IsLoadFault verb refused before after seen now name (Usage word) = ⊥
-IsLoadFault verb refused before after seen now name SourceFailed = ⊥
+IsLoadFault verb free before after seen now name (Refused cause document at) =
+    IsRefusedSchema verb free before after seen now name cause document at
+IsLoadFault verb free before after seen now name (Usage word) = ⊥
+IsLoadFault verb free before after seen now name SourceFailed = ⊥
 
 -- files were loaded, no more than a schema may have documents
 abbrev pub AreFewLoads : FilesSeen → FilesSeen → Type 0
@@ -127,14 +127,14 @@ IsReadEnd verb table before after (Err (Refused cause document at)) = ⊥
 -- What was decided, by the stage at which it was, where the patterns of lengths of these elements are refused. Where the words decide,
 -- nothing is loaded; else the documents of the schema are, and then the patterns of their elements are built. Only where the data decides
 -- is the source touched.
-pub data Decided (words : List (List ℕ)) (refused : Site → Bool) (before after : Inputs) (end : End) : Type 0 where
+pub data Decided (words : List (List ℕ)) (free : Free) (before after : Inputs) (end : End) : Type 0 where
   by_words : (at : ℕ) → IsPlace IsCommand words at → end ≡ Err (Usage (at + 1)) → after ≡ before
-      → Decided words refused before after end
+      → Decided words free before after end
   by_schema : (order : Order) (stop : Stop) → Orders words order → end ≡ Err stop
-      → IsLoadFault order.verb refused before.files after.files before.patterns after.patterns order.schema stop
+      → IsLoadFault order.verb free before.files after.files before.patterns after.patterns order.schema stop
       → AreFewLoads before.files after.files
-      → after.source ≡ before.source → Decided words refused before after end
+      → after.source ≡ before.source → Decided words free before after end
   by_data : (order : Order) (table : Table) → Orders words order
-      → IsDescribed order.verb refused before.files after.files before.patterns after.patterns order.schema table
+      → IsDescribed order.verb free before.files after.files before.patterns after.patterns order.schema table
       → IsReadEnd order.verb table before.source after.source end
-      → Decided words refused before after end
+      → Decided words free before after end

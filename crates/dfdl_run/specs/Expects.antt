@@ -10,7 +10,7 @@ use Rattle.dfdl_report.specs.declared.cause.LimitCause.TheVariants.{Input, Windo
 use Rattle.dfdl_documents.specs.Documents.{SchemaDocument}
 use Rattle.dfdl_documents.specs.Told.{AreTold, IsDue}
 use Rattle.dfdl_documents.specs.declared.fault.DocumentsFault.{DocumentsFault}
-use Rattle.dfdl_components.specs.declared.site.Site.{Site}
+use Rattle.dfdl_compile.specs.Settling.{Free}
 use Rattle.dfdl_terms.specs.Rows.{Table}
 use Rattle.dfdl_run.specs.declared.stop.Stop.TheVariants.{Usage, FilesFailed, NoDocument, Refused}
 use Rattle.dfdl_run.specs.declared.stop.Stop.TheVariants.{SourceFailed}
@@ -28,38 +28,38 @@ most_input = 2 ^ 30
 -- The end of a run on these words, as far as the bytes of the files and of the source are told, where
 -- the patterns of lengths of these elements are refused. The words count first, then the documents of the schema, then the schema, then the source, then the
 -- infoset, then the meaning.
-pub data Expects (words : List (List ℕ)) (refused : Site → Bool) (told : Inputs) : End → Type 0 where
+pub data Expects (words : List (List ℕ)) (free : Free) (told : Inputs) : End → Type 0 where
   -- the words are no command from word `at` on
-  no_command : (at : ℕ) → IsPlace IsCommand words at → Expects words refused told (Err (Usage (at + 1)))
+  no_command : (at : ℕ) → IsPlace IsCommand words at → Expects words free told (Err (Usage (at + 1)))
   -- a document of the schema is not there, too long, none, or one too many
   no_documents : (order : Order) (fault : DocumentsFault) → Orders words order
-      → IsDue told.files (asked order.schema) fault → Expects words refused told (Err (stop_of fault))
+      → IsDue told.files (asked order.schema) fault → Expects words free told (Err (stop_of fault))
   -- the documents are no schema
   no_schema : (order : Order) (documents : List SchemaDocument) (cause : SchemaCause)
       (document : List ℕ) (at : ℕ) → Orders words order
       → AreTold told.files documents → AreDocuments told.files order.schema documents
-      → IsNoSchema order.verb refused documents cause document at
-      → Expects words refused told (Err (Refused cause document at))
+      → IsNoSchema order.verb free documents cause document at
+      → Expects words free told (Err (Refused cause document at))
   -- the components of the documents pass a limit
   no_rows : (order : Order) (documents : List SchemaDocument) (cause : LimitCause) (quantity : ℕ)
       → Orders words order
       → AreTold told.files documents → AreDocuments told.files order.schema documents
-      → IsPast order.verb refused documents cause quantity
-      → Expects words refused told (Err (Limit cause quantity))
+      → IsPast order.verb free documents cause quantity
+      → Expects words free told (Err (Limit cause quantity))
   -- the source gives a byte past the limit
   long_input : (order : Order) (documents : List SchemaDocument) (table : Table)
       (bytes : List ℕ) → Orders words order
       → AreTold told.files documents → AreDocuments told.files order.schema documents
-      → IsSchemaOf order.verb refused documents table
+      → IsSchemaOf order.verb free documents table
       → told.source.left ≡ Some bytes → most_input < length bytes
-      → Expects words refused told (Err (Limit Input most_input))
+      → Expects words free told (Err (Limit Input most_input))
   -- the bytes are parsed or unparsed
   meant : (order : Order) (documents : List SchemaDocument) (table : Table) (bytes : List ℕ)
       → Orders words order
       → AreTold told.files documents → AreDocuments told.files order.schema documents
-      → IsSchemaOf order.verb refused documents table
+      → IsSchemaOf order.verb free documents table
       → told.source.left ≡ Some bytes → length bytes ≤ most_input
-      → Expects words refused told (end_of order.verb table bytes)
+      → Expects words free told (end_of order.verb table bytes)
 
 -- the statuses that can come in place of an end, since they come before it: those of the files, the
 -- source and `out` where a call on them failed before, and that of want of memory

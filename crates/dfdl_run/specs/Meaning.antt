@@ -6,6 +6,7 @@ use Rattle.dfdl_terms.specs.Rows.{Table}
 use Rattle.dfdl_terms.specs.declared.event.Event.{Event}
 use Rattle.dfdl_grammar.specs.declared.end.End.{End as DocumentEnd}
 use Rattle.dfdl_grammar.specs.declared.end.End.TheVariants.{Done as IsDone, Failed as Fails, Stopped}
+use Rattle.dfdl_grammar.specs.declared.end.Halt.TheVariants as halt
 use Rattle.dfdl_grammar.specs.declared.limits.Limits.{Limits}
 use Rattle.dfdl_grammar.specs.Outcomes.{Outcome}
 use Rattle.dfdl_grammar.specs.States.{State}
@@ -17,7 +18,7 @@ use Rattle.dfdl_json.specs.Lines.{line_of}
 use Rattle.dfdl_pieces.specs.Laying.{unparsed_of}
 use Rattle.dfdl_pieces.specs.declared.unparsing.Unparsed.{Unparsed as Laid}
 use Rattle.dfdl_run.specs.declared.answer.Answer.{Answer}
-use Rattle.dfdl_run.specs.declared.answer.Answer.TheVariants.{Done, LeftOver, Failed, Unparsed}
+use Rattle.dfdl_run.specs.declared.answer.Answer.TheVariants.{Done, LeftOver, Failed, Variable, Unparsed}
 use Rattle.dfdl_run.specs.declared.answer.Answer.TheVariants.{NotUnparsed, NoInfoset}
 use Rattle.dfdl_run.specs.declared.stop.Stop.TheVariants.{Limit}
 use Rattle.dfdl_run.specs.declared.command.Verb.{Verb}
@@ -38,7 +39,8 @@ answer_at t bits s =
 abbrev pub document_end : Table → ℕ → DocumentEnd → State → End
 document_end t bits IsDone s = Ok (answer_at t bits s)
 document_end t bits (Fails cause at) s = Ok (Failed cause at (path_of t s.nodes s.inside) (said_of t cause))
-document_end t bits (Stopped cause quantity) s = Err (Limit cause quantity)
+document_end t bits (Stopped (halt.Limit cause) quantity) s = Err (Limit cause quantity)
+document_end t bits (Stopped (halt.Variable cause) at) s = Ok (Variable cause at (path_of t s.nodes s.inside))
 
 -- what an outcome comes to, of so many bits of data
 abbrev pub outcome_end : Table → ℕ → Outcome → End

@@ -1,11 +1,12 @@
 -- One run, by what is seen of the outside before and after it, and by its exit status.
-use Rattle.std.specs.Prelude.{◌≡◌, ℕ, ◌||◌, ◌==◌, Bool, IsTrue, List, []}
+use Rattle.std.specs.Prelude.{◌≡◌, ◌⊎◌, ℕ, ◌||◌, ◌==◌, Bool, IsTrue, List, []}
 use Rattle.dfdl_edge.specs.Faults.{Rose}
 use Rattle.dfdl_edge.specs.Sink.{Adds}
 use Rattle.dfdl_edge.specs.Whole.{IsUsedUp}
 use Rattle.dfdl_documents.specs.Faults.{IsFailed}
-use Rattle.dfdl_components.specs.declared.site.Site.{Site}
-use Rattle.dfdl_report.specs.Lines.{files_line, memory_line, sink_line, source_line}
+use Rattle.dfdl_compile.specs.Settling.{Free}
+use Rattle.dfdl_report.specs.Lines.{files_line, memory_line, sink_line, source_line, variable_line}
+use Rattle.dfdl_report.specs.declared.cause.VariableCause.{VariableCause}
 use Rattle.dfdl_run.specs.Answer.{End}
 use Rattle.dfdl_run.specs.Command.{Order, Orders}
 use Rattle.dfdl_run.specs.Decided.{AreFewLoads, Decided}
@@ -17,10 +18,6 @@ use Rattle.dfdl_run.specs.Schemas.{asked}
 -- the statuses of runs whose data came to something
 abbrev pub is_of_data : ℕ → Bool
 is_of_data status = status == 0 || status == 1 || status == 3 || status == 11 || status == 12
-
--- the statuses of runs that words, files or the schema ended
-abbrev pub is_before_data : ℕ → Bool
-is_before_data status = status == 2 || status == 4 || status == 7
 
 -- the statuses of runs that words or files ended
 abbrev pub is_before_schema : ℕ → Bool
@@ -49,15 +46,24 @@ pub record FilesFail (words : List (List ℕ)) (before after : Outside) : Type 0
   pub rose : Rose before.inputs.files.faults after.inputs.files.faults
   pub named : NamesFile words before after
 
+-- a variable can't be set while the data are parsed: the source is used up, and the note tells where it is
+pub record VariableFails (before after : Outside) : Type 0 where
+  pub cause : VariableCause
+  pub bit : ℕ
+  pub path : List ℕ
+  pub used_up : IsUsedUp before.inputs.source.left after.inputs.source.left
+  pub told : Tells (variable_line cause bit path) before.outputs.notes after.outputs.notes
+
 -- one run on these words that has ended with this status
 pub record IsRun (words : List (List ℕ)) (before after : Outside) (status : ℕ) : Type 0 where
-  -- the elements of the schema whose patterns of lengths were refused in this run
-  pub refused : Site → Bool
+  -- what the documents alone don't fix: the elements of the schema whose patterns of lengths were refused in this run, and the maps by which
+  -- its statements were settled
+  pub free : Free
   -- told or not: an end was decided by the words, the schema or the data, and the run ended with it
-  pub answered : (end : End) × Decided words refused before.inputs after.inputs end
+  pub answered : (end : End) × Decided words free before.inputs after.inputs end
       × Finished end before.outputs after.outputs status
-  -- where the outside tells its bytes: the run is as expected by these refusals
-  pub expected : (end : End) → Expects words refused before.inputs end
+  -- where the outside tells its bytes: the run is as expected by these refusals and maps
+  pub expected : (end : End) → Expects words free before.inputs end
       → IsAsExpected end before after status
   -- the faults of the outside and want of memory
   pub source_failed : status ≡ 5 → SourceFails before after
@@ -66,10 +72,12 @@ pub record IsRun (words : List (List ℕ)) (before after : Outside) (status : �
   pub out_of_memory : status ≡ 9 → Tells memory_line before.outputs.notes after.outputs.notes
   -- what the run leaves as it was: `out` at each status that has nothing written, the source where
   -- something before the data ended the run, the files where the words did, and what builds patterns
-  -- where the words or a file did; and the source is used up where its data came to something
+  -- where the words or a file did; and the source is used up where its data came to something, also where
+  -- they set a variable that can't be set
   pub unwritten : (status ≡ 0 → ⊥) → (status ≡ 3 → ⊥) → (status ≡ 6 → ⊥) → (status ≡ 11 → ⊥)
       → Adds before.outputs.out.taken [] after.outputs.out.taken
-  pub unread : IsTrue (is_before_data status) → after.inputs.source ≡ before.inputs.source
+  pub unread : IsTrue (is_before_schema status) → after.inputs.source ≡ before.inputs.source
+  pub schema_refused : status ≡ 2 → (after.inputs.source ≡ before.inputs.source) ⊎ VariableFails before after
   pub unloaded : status ≡ 4 → after.inputs.files ≡ before.inputs.files
   pub unbuilt : IsTrue (is_before_schema status) → after.inputs.patterns ≡ before.inputs.patterns
   pub used_up : IsTrue (is_of_data status) → IsUsedUp before.inputs.source.left after.inputs.source.left

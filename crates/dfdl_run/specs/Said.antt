@@ -1,7 +1,7 @@
--- What the schema says of a test that fails.
+-- What is said of a processing error besides its cause.
 use Rattle.std.specs.Prelude.{ℕ, List, Option, Some, None}
 use Rattle.dfdl_report.specs.declared.cause.ParseCause.{ParseCause}
-use Rattle.dfdl_report.specs.declared.cause.ParseCause.TheVariants.{AssertionFalse, DiscriminatorFalse}
+use Rattle.dfdl_report.specs.declared.cause.ParseCause.TheVariants.{AssertionFalse, DiscriminatorFalse, ExpressionFault}
 use Rattle.dfdl_terms.specs.Messages.{message_of}
 use Rattle.dfdl_terms.specs.Rows.{Table}
 
@@ -10,6 +10,11 @@ abbrev pub test_in : ParseCause → Option ℕ
 test_in (AssertionFalse test) = Some test
 test_in (DiscriminatorFalse test) = Some test
 test_in _ = None
+
+-- the number of the reason for which an expression has no value, if one has none
+abbrev pub fault_in : ParseCause → Option ℕ
+fault_in (ExpressionFault fault) = Some fault
+fault_in _ = None
 
 -- the message of a test, if there is one
 abbrev pub said_in : Table → Option ℕ → Option (List ℕ)

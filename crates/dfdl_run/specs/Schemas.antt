@@ -1,5 +1,5 @@
 -- The schema of a run: its documents, the limits on them, and what they have to be.
-use Rattle.std.specs.Prelude.{◌≡◌, ℕ, Bool, List, Ok, Err}
+use Rattle.std.specs.Prelude.{ℕ, List, Ok, Err}
 use Rattle.dfdl_report.specs.declared.cause.SchemaCause.{SchemaCause}
 use Rattle.dfdl_report.specs.declared.cause.LimitCause.{LimitCause}
 use Rattle.dfdl_report.specs.declared.place.Place.{Place}
@@ -9,7 +9,6 @@ use Rattle.dfdl_documents.specs.Loading.{AreLoaded, document_at}
 use Rattle.dfdl_documents.specs.Faults.{Request, request}
 use Rattle.dfdl_documents.specs.declared.fault.DocumentsFault.{DocumentsFault}
 use Rattle.dfdl_documents.specs.declared.fault.DocumentsFault.TheVariants as fault
-use Rattle.dfdl_components.specs.declared.site.Site.{Site}
 use Rattle.dfdl_components.specs.declared.fault.SchemaFault.{SchemaFault}
 use Rattle.dfdl_components.specs.declared.fault.SchemaFault.TheVariants as schema
 use Rattle.dfdl_components.specs.Rules.{AllKeep, loading_rules}
@@ -19,7 +18,8 @@ use Rattle.dfdl_checks.specs.declared.purpose.Purpose.{Purpose}
 use Rattle.dfdl_checks.specs.declared.purpose.Purpose.TheVariants.{Parsing, Unparsing}
 use Rattle.dfdl_run.specs.declared.command.Verb.{Verb}
 use Rattle.dfdl_run.specs.declared.command.Verb.TheVariants.{Parse, Unparse}
-use Rattle.dfdl_compile.specs.Compiled.{compiled, Refused as Refuses, Limit as Passes}
+use Rattle.dfdl_compile.specs.Compiled.{Refused as Refuses, Limit as Passes}
+use Rattle.dfdl_compile.specs.Settling.{CompilesTo, Free}
 use Rattle.dfdl_run.specs.declared.stop.Stop.{Stop}
 use Rattle.dfdl_run.specs.declared.stop.Stop.TheVariants.{FilesFailed, NoDocument, Refused, Limit, OutOfMemory}
 
@@ -69,21 +69,21 @@ purpose_of Unparse = Unparsing
 
 -- the documents are a schema of these rows, where the patterns of these elements are refused: they keep all rules, and their
 -- components come to the rows
-pub record IsSchemaOf (verb : Verb) (refused : Site → Bool) (documents : List SchemaDocument) (table : Table) : Type 0 where
+pub record IsSchemaOf (verb : Verb) (free : Free) (documents : List SchemaDocument) (table : Table) : Type 0 where
   pub keeps : AllKeep (loading_rules documents) documents
-  pub compiled_is : compiled (purpose_of verb) refused documents most_depth most_rows ≡ Ok table
+  pub compiled_is : CompilesTo (purpose_of verb) free documents most_depth most_rows (Ok table)
 
 -- Why documents are no schema, with the name of a document and a byte of it.
-pub data IsNoSchema (verb : Verb) (refused : Site → Bool) (documents : List SchemaDocument) : SchemaCause → List ℕ → ℕ → Type 0 where
+pub data IsNoSchema (verb : Verb) (free : Free) (documents : List SchemaDocument) : SchemaCause → List ℕ → ℕ → Type 0 where
   -- an element that begins there breaks a rule of loading, the first one that does
   breaks : (cause : SchemaCause) (place : Place) (name : List ℕ) → IsRefused documents cause place name
-      → IsNoSchema verb refused documents cause name place.at
+      → IsNoSchema verb free documents cause name place.at
   -- they keep all of these, and a component that begins there is refused
   refuses : (cause : SchemaCause) (place : Place) → AllKeep (loading_rules documents) documents
-      → compiled (purpose_of verb) refused documents most_depth most_rows ≡ Err (Refuses cause place)
-      → IsNoSchema verb refused documents cause (document_at documents place.document).name place.at
+      → CompilesTo (purpose_of verb) free documents most_depth most_rows (Err (Refuses cause place))
+      → IsNoSchema verb free documents cause (document_at documents place.document).name place.at
 
 -- Which limit on components documents pass that keep all rules of loading.
-pub record IsPast (verb : Verb) (refused : Site → Bool) (documents : List SchemaDocument) (cause : LimitCause) (quantity : ℕ) : Type 0 where
+pub record IsPast (verb : Verb) (free : Free) (documents : List SchemaDocument) (cause : LimitCause) (quantity : ℕ) : Type 0 where
   pub keeps : AllKeep (loading_rules documents) documents
-  pub compiled_is : compiled (purpose_of verb) refused documents most_depth most_rows ≡ Err (Passes cause quantity)
+  pub compiled_is : CompilesTo (purpose_of verb) free documents most_depth most_rows (Err (Passes cause quantity))

@@ -1,8 +1,9 @@
 ghost use Rattle.std.specs.Prelude.{◌≡◌, IfOk, string_bytes};
-ghost use Rattle.dfdl_run.specs.Answer.{answer_note, answer_status, failed_note, is_written};
+ghost use Rattle.dfdl_run.specs.Said.{fault_in};
+ghost use Rattle.dfdl_run.specs.Answer.{answer_note, answer_status, failed_note, is_written, said_note};
 
 use dfdl_pieces::PieceList;
-use dfdl_report::{InfosetCause, ParseCause, Status, UnparseCause, line};
+use dfdl_report::{InfosetCause, ParseCause, Status, UnparseCause, VariableCause, line};
 use dfdl_value::TextValue;
 use std::alloc::{AllocError, Global};
 
@@ -25,6 +26,12 @@ pub enum Answer {
         path: TextValue,
         /// What the schema says of it, where it is a test that fails.
         message: Option<TextValue>,
+    },
+    /// A variable that can't be set at this bit, in the element of this path.
+    Variable {
+        cause: VariableCause,
+        bit: u64,
+        path: TextValue,
     },
     /// The data of an infoset, in the pieces that are written.
     Unparsed {
@@ -51,6 +58,7 @@ impl Answer {
             Answer::Done { .. } => Status::Done,
             Answer::Unparsed { .. } => Status::Done,
             Answer::Failed { .. } => Status::ProcessingError,
+            Answer::Variable { .. } => Status::SchemaRefused,
             Answer::NotUnparsed { .. } => Status::UnparseError,
             Answer::LeftOver { .. } => Status::LeftOver,
             Answer::NoInfoset { .. } => Status::InfosetRefused,
@@ -70,6 +78,9 @@ impl Answer {
                 path,
                 message,
             } => failed_note(alloc, *cause, *bit, path, message),
+            Answer::Variable { cause, bit, path } => {
+                line::of_variable(alloc, *cause, *bit, path.as_str())
+            }
             Answer::NotUnparsed { cause, path, .. } => {
                 line::of_unparse(alloc, *cause, path.as_str())
             }
@@ -78,7 +89,7 @@ impl Answer {
     }
 }
 
-// The line of a processing error, with what the schema says of it.
+// The line of a processing error.
 fn failed_note(
     alloc: Global,
     cause: ParseCause,
@@ -87,6 +98,32 @@ fn failed_note(
     message: &Option<TextValue>,
 ) -> Result<String, AllocError>
     ensures { IfOk result (λ note. string_bytes note ≡ failed_note cause bit path.now message.now) }
+{
+    match fault_in(cause) {
+        None => said_note(alloc, cause, bit, path, message),
+        Some(fault) => line::of_fault(alloc, cause, bit, path.as_str(), fault),
+    }
+}
+
+// The number of the reason for which an expression has no value, if one has none.
+fn fault_in(cause: ParseCause) -> Option<u8>
+    ensures { result ≡ fault_in cause }
+{
+    match cause {
+        ParseCause::ExpressionFault { fault } => Some(fault),
+        _ => None,
+    }
+}
+
+// The line of a processing error, with what the schema says of it.
+fn said_note(
+    alloc: Global,
+    cause: ParseCause,
+    bit: u64,
+    path: &TextValue,
+    message: &Option<TextValue>,
+) -> Result<String, AllocError>
+    ensures { IfOk result (λ note. string_bytes note ≡ said_note cause bit path.now message.now) }
 {
     match message {
         None => line::of_parse(alloc, cause, bit, path.as_str()),

@@ -7,6 +7,7 @@ use crate::deciding::decide;
 use crate::delivery::finish;
 use dfdl_documents::laws::loading_is_one;
 use dfdl_edge::{Files, Patterns, Sink, Source};
+use dfdl_expression_tree::laws::texts_are_read;
 use std::alloc::Global;
 
 /// One run of the program: the words of the command, the files, the data on `source`, the answer on
@@ -43,6 +44,7 @@ pub fn run<S: Source, K: Sink, N: Sink, F: Files, C: Chooser, P: Patterns>(
     ensures chooser { chooser.new ≡ chooser.old }
 {
     loading_is_one();
+    texts_are_read();
     let _ = chooser;
     let end = decide(alloc, words, files, source, patterns);
     finish(alloc, out, notes, &end)

@@ -1,6 +1,6 @@
 // What a run comes to, before anything is written.
-ghost use Rattle.std.specs.Prelude.{◌≡◌, Bool, ◌<◌, ◌+◌, ◌^◌, map, string_bytes};
-ghost use Rattle.dfdl_components.specs.declared.site.Site.{Site};
+ghost use Rattle.std.specs.Prelude.{◌≡◌, ◌<◌, ◌+◌, ◌^◌, map, string_bytes};
+ghost use Rattle.dfdl_compile.specs.Settling.{Free};
 ghost use Rattle.dfdl_terms.specs.Rows.{HasElementLast, HasPlainRows};
 ghost use Rattle.dfdl_pieces.specs.Whole.{AreWholeFields};
 ghost use Rattle.dfdl_run.specs.Decided.{Decided, IsReadEnd};
@@ -84,7 +84,7 @@ pub(crate) fn decide<S: Source, F: Files, P: Patterns>(
     source: &mut S,
     patterns: &mut P,
 ) -> Result<Answer, Stop>
-    ensures { (refused : Site → Bool) × Decided (map string_bytes words.now) refused
+    ensures { (free : Free) × Decided (map string_bytes words.now) free
         (record {
           files = F.seen files.old;
           source = S.seen source.old;

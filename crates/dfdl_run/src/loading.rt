@@ -1,9 +1,9 @@
 // The loading of a schema.
-ghost use Rattle.std.specs.Prelude.{◌≡◌, ◌⊎◌, Bool, Ok, IfOk, IfErr};
+ghost use Rattle.std.specs.Prelude.{◌≡◌, ◌⊎◌, Ok, IfOk, IfErr};
 ghost use Rattle.dfdl_components.specs.Rules.{AllKeep, loading_rules};
 ghost use Rattle.dfdl_documents.specs.Loading.{document_at};
 ghost use Rattle.dfdl_terms.specs.Rows.{HasElementLast, HasPlainRows};
-ghost use Rattle.dfdl_components.specs.declared.site.Site as declared_site;
+ghost use Rattle.dfdl_compile.specs.Settling.{Free};
 ghost use Rattle.dfdl_compile.specs.Builds.{ComesTo, ComesToFault};
 ghost use Rattle.dfdl_pieces.specs.Whole.{AreWholeFields};
 ghost use Rattle.dfdl_run.specs.Decided.{AreFewLoads, IsDescribed, IsLoadFault};
@@ -120,10 +120,10 @@ pub(crate) fn load_terms<F: Files, P: Patterns>(
     ensures element { IfOk result HasElementLast }
     ensures whole { verb ≡ Unparse → IfOk result AreWholeFields }
     ensures plain { verb ≡ Unparse → IfOk result (λ t. HasPlainRows t.rows) }
-    ensures ok { IfOk result (λ t. (refused : declared_site.Site → Bool) × IsDescribed verb refused (F.seen files.old) (F.seen files.new)
+    ensures ok { IfOk result (λ t. (free : Free) × IsDescribed verb free (F.seen files.old) (F.seen files.new)
         (record { faults = P.faults patterns.old; last = P.last_refused patterns.old })
         (record { faults = P.faults patterns.new; last = P.last_refused patterns.new }) name.now t) }
-    ensures err { IfErr result (λ stop. (refused : declared_site.Site → Bool) × IsLoadFault verb refused (F.seen files.old) (F.seen files.new)
+    ensures err { IfErr result (λ stop. (free : Free) × IsLoadFault verb free (F.seen files.old) (F.seen files.new)
         (record { faults = P.faults patterns.old; last = P.last_refused patterns.old })
         (record { faults = P.faults patterns.new; last = P.last_refused patterns.new }) name.now stop) }
     ensures few { AreFewLoads (F.seen files.old) (F.seen files.new) }

@@ -52,6 +52,14 @@ pub(crate) fn parse(alloc: Global, terms: &Terms, feeding: &Feeding<'_>) -> Resu
             Err(_) => Err(Stop::OutOfMemory),
         },
         Outcome::Limit { cause, quantity } => Err(limit(cause, quantity)),
+        Outcome::Variable { cause, bit } => match session.path(alloc) {
+            Ok(path) => Ok(Answer::Variable {
+                cause,
+                bit,
+                path: TextValue::from_string(path),
+            }),
+            Err(_) => Err(Stop::OutOfMemory),
+        },
         Outcome::Open | Outcome::OutOfMemory => Err(Stop::OutOfMemory),
     }
 }

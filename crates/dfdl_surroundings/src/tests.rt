@@ -15,7 +15,14 @@ fn no_items(alloc: Global) -> Result<Items, AllocError> {
     let children = RowList::new(Vec::new(alloc));
     let mut rows = Vec::new(alloc);
     rows.push(Row::Group { children })?;
-    let tables = Tables::new(Vec::new(alloc), Vec::new(alloc), Vec::new(alloc));
+    let names = NameNumbers::from_vec(Vec::new(alloc));
+    let tables = Tables::new(
+        Vec::new(alloc),
+        Vec::new(alloc),
+        Vec::new(alloc),
+        names,
+        Vec::new(alloc),
+    );
     match Terms::build(alloc, rows, tables) {
         Ok(terms) => Items::of(alloc, &terms),
         Err(_) => Err(AllocError),

@@ -1,5 +1,5 @@
 -- Arrays: which elements are their items.
-use Rattle.std.specs.Prelude.{◌≡◌, ◌&&◌, ℕ, Bool, false, nat_eq, List, [], ◌∷◌, Option, Some, slice_get, slice_index_or}
+use Rattle.std.specs.Prelude.{◌≡◌, ◌&&◌, ℕ, zero, suc, length, Bool, false, nat_eq, List, [], ◌∷◌, Option, Some, slice_get, slice_index_or}
 use Rattle.std.specs.List.{list_any}
 use Rattle.dfdl_terms.specs.declared.row.Row.{Row}
 use Rattle.dfdl_terms.specs.declared.slots.Slot.{Slot}
@@ -33,3 +33,12 @@ is_marked marks row = slice_index_or marks row false
 -- the rows that are marked are those of items
 abbrev pub MarksItems : List Row → List Bool → Type 0
 MarksItems rows marks = (row : ℕ) → is_marked marks row ≡ is_item rows row
+
+-- whether those of the rows from a number on are, for so many
+unfoldable pub item_marks_from : List Row → ℕ → ℕ → List Bool
+item_marks_from rows first zero = []
+item_marks_from rows first (suc count) = is_item rows first ∷ item_marks_from rows (suc first) count
+
+-- whether those of each row are
+abbrev pub item_marks : List Row → List Bool
+item_marks rows = item_marks_from rows 0 (length rows)

@@ -2,6 +2,14 @@
 use Rattle.std.specs.Prelude.{None}
 use Rattle.dfdl_terms.specs.declared.framing.Framing.{Framing}
 
--- neither a test nor fill nor a delimiter
+-- neither a statement nor fill nor a delimiter
 abbrev pub no_fill : Framing
-no_fill = record { tests = record { first = 0; count = 0 }; leading_skip = 0; alignment = 1; initiator = None; terminator = None; trailing_skip = 0 }
+no_fill = record {
+  before = record { first = 0; count = 0 };
+  leading_skip = 0;
+  alignment = 1;
+  initiator = None;
+  terminator = None;
+  trailing_skip = 0;
+  behind = record { first = 0; count = 0 };
+}

@@ -1,5 +1,5 @@
 -- Tables of rows: each row's children stand below it.
-use Rattle.std.specs.Prelude.{◌≡◌, ℕ, ◌<◌, ◌≤◌, ◌-◌, List, length, All, IsUtf8, slice_get, Option, None, Some}
+use Rattle.std.specs.Prelude.{◌≡◌, ℕ, ◌<◌, ◌≤◌, ◌+◌, ◌-◌, List, length, All, IsUtf8, slice_get, Option, None, Some}
 use Rattle.dfdl_forms.specs.BinaryNumbers.{IsIntForm, IsPackedForm, IsTruthForm}
 use Rattle.dfdl_forms.specs.NumberForms.{IsNumberForm}
 use Rattle.dfdl_forms.specs.Packed.{IsZonedForm}
@@ -15,9 +15,11 @@ use Rattle.dfdl_terms.specs.declared.text.TextSize.TheVariants.{Bits, Characters
 use Rattle.dfdl_terms.specs.declared.row.Primitive.{Primitive}
 use Rattle.dfdl_terms.specs.declared.row.Primitive.TheVariants.{Integer, Packed, Truth, Octets, Text, NilOctets, Default, NilValues, Pattern}
 use Rattle.dfdl_terms.specs.declared.row.Row.{Row}
-use Rattle.dfdl_terms.specs.declared.row.Row.TheVariants.{Leaf, Elem, Group, Skip, Align, Initiator, Terminator, Separator, Scope, Boxed, PrefixedLeaf, PrefixedBox, Repeat, Optional, Choice, Test, Hidden, Separated}
+use Rattle.dfdl_terms.specs.declared.row.Row.TheVariants.{Leaf, Elem, Group, Skip, Align, Initiator, Terminator, Separator, Scope, Boxed, PrefixedLeaf, PrefixedBox, Repeat, Optional, Choice, Statement, Concluded, Hidden, Separated}
 use Rattle.dfdl_terms.specs.declared.delimiters.Delimiters.{Delimiters}
-use Rattle.dfdl_terms.specs.declared.asserting.PatternTest.{PatternTest}
+use Rattle.dfdl_terms.specs.declared.statement.Statements.{Statements}
+use Rattle.dfdl_terms.specs.declared.statement.Statement.{Statement as AnyStatement}
+use Rattle.dfdl_vars.specs.declared.values.VarDef.{VarDef}
 use Rattle.dfdl_terms.specs.Tables.{Named}
 
 -- the rows of a schema, and what they name by numbers
@@ -25,15 +27,30 @@ pub record Table : Type 0 where
   pub rows : List Row
   pub primitives : List Primitive
   pub delimiters : List Delimiters
-  pub tests : List PatternTest
+  pub statements : List AnyStatement
+  pub names : List (Option ℕ)
+  pub variables : List VarDef
 
 -- rows, and what they name
 abbrev pub table_of : List Row → Named → Table
-table_of rows named = record { rows = rows; primitives = named.primitives; delimiters = named.delimiters; tests = named.tests }
+table_of rows named = record {
+  rows = rows;
+  primitives = named.primitives;
+  delimiters = named.delimiters;
+  statements = named.statements;
+  names = named.names;
+  variables = named.variables;
+}
 
 -- what the rows of a table name
 abbrev pub named_by : Table → Named
-named_by t = record { primitives = t.primitives; delimiters = t.delimiters; tests = t.tests }
+named_by t = record {
+  primitives = t.primitives;
+  delimiters = t.delimiters;
+  statements = t.statements;
+  names = t.names;
+  variables = t.variables;
+}
 
 -- the most rows of one schema
 abbrev pub most_rows : ℕ
@@ -42,7 +59,7 @@ most_rows = 65535
 -- each child of the row is below the bound
 abbrev pub ChildrenBelow : ℕ → Row → Type 0
 ChildrenBelow bound (Leaf prim) = Unit {0}
-ChildrenBelow bound (Elem name simple tried body) = body < bound
+ChildrenBelow bound (Elem name simple tried behind body) = body < bound
 ChildrenBelow bound (Group children) = All (λ c. c < bound) children
 ChildrenBelow bound (Skip bits) = Unit {0}
 ChildrenBelow bound (Align bits) = Unit {0}
@@ -56,7 +73,8 @@ ChildrenBelow bound (PrefixedBox prefix body) = body < bound
 ChildrenBelow bound (Repeat count body) = body < bound
 ChildrenBelow bound (Optional most item initiated body) = body < bound
 ChildrenBelow bound (Choice branches initiated) = All (λ b. b < bound) branches
-ChildrenBelow bound (Test test) = Unit {0}
+ChildrenBelow bound (Statement statement) = Unit {0}
+ChildrenBelow bound (Concluded behind body) = body < bound
 ChildrenBelow bound (Hidden body) = body < bound
 ChildrenBelow bound (Separated policy position initiated slots) = All (λ slot. slot.body < bound) slots
 
@@ -84,10 +102,14 @@ IsWithin count (Some number) = number < count
 abbrev pub AreWithin : ℕ → Representations → Type 0
 AreWithin primitives tried = IsWithin primitives tried.nil × IsWithin primitives tried.empty
 
+-- these statements are some of so many
+abbrev pub AreStatements : ℕ → Statements → Type 0
+AreStatements count statements = statements.first + statements.count ≤ count
+
 -- the row's numbers are in the tables
 abbrev pub NamesWithin : Named → Row → Type 0
 NamesWithin named (Leaf prim) = prim < length named.primitives
-NamesWithin named (Elem name simple tried body) = AreWithin (length named.primitives) tried
+NamesWithin named (Elem name simple tried behind body) = AreWithin (length named.primitives) tried × AreStatements (length named.statements) behind
 NamesWithin named (Group children) = Unit {0}
 NamesWithin named (Skip bits) = Unit {0}
 NamesWithin named (Align bits) = Unit {0}
@@ -101,7 +123,8 @@ NamesWithin named (PrefixedBox prefix body) = prefix.prim < length named.primiti
 NamesWithin named (Repeat count body) = Unit {0}
 NamesWithin named (Optional most item initiated body) = Unit {0}
 NamesWithin named (Choice branches initiated) = Unit {0}
-NamesWithin named (Test test) = test < length named.tests
+NamesWithin named (Statement statement) = statement < length named.statements
+NamesWithin named (Concluded behind body) = AreStatements (length named.statements) behind
 NamesWithin named (Hidden body) = Unit {0}
 NamesWithin named (Separated policy position initiated slots) = Unit {0}
 
@@ -157,7 +180,7 @@ IsPrimitive (Pattern form) = Unit {0}
 
 -- the row is an element
 abbrev pub IsElementRow : Option Row → Type 0
-IsElementRow (Some (Elem name simple tried body)) = Unit {0}
+IsElementRow (Some (Elem name simple tried behind body)) = Unit {0}
 IsElementRow (Some (Leaf prim)) = ⊥
 IsElementRow (Some (Group children)) = ⊥
 IsElementRow (Some (Skip bits)) = ⊥
@@ -172,7 +195,8 @@ IsElementRow (Some (PrefixedBox prefix body)) = ⊥
 IsElementRow (Some (Repeat count body)) = ⊥
 IsElementRow (Some (Optional most item initiated body)) = ⊥
 IsElementRow (Some (Choice branches initiated)) = ⊥
-IsElementRow (Some (Test test)) = ⊥
+IsElementRow (Some (Statement statement)) = ⊥
+IsElementRow (Some (Concluded behind body)) = ⊥
 IsElementRow (Some (Hidden body)) = ⊥
 IsElementRow (Some (Separated policy position initiated slots)) = ⊥
 IsElementRow None = ⊥
@@ -192,7 +216,7 @@ pub record IsTable (t : Table) : Type 0 where
 -- a row of the content alone: neither fill nor a delimiter nor a prefix nor a box around a content
 abbrev pub IsPlainRow : Row → Type 0
 IsPlainRow (Leaf prim) = Unit {0}
-IsPlainRow (Elem name simple tried body) = Unit {0}
+IsPlainRow (Elem name simple tried behind body) = Unit {0}
 IsPlainRow (Group children) = Unit {0}
 IsPlainRow (Skip bits) = ⊥
 IsPlainRow (Align bits) = ⊥
@@ -206,7 +230,8 @@ IsPlainRow (PrefixedBox prefix body) = ⊥
 IsPlainRow (Repeat count body) = ⊥
 IsPlainRow (Optional most item initiated body) = ⊥
 IsPlainRow (Choice branches initiated) = ⊥
-IsPlainRow (Test test) = ⊥
+IsPlainRow (Statement statement) = ⊥
+IsPlainRow (Concluded behind body) = ⊥
 IsPlainRow (Hidden body) = ⊥
 IsPlainRow (Separated policy position initiated slots) = ⊥
 

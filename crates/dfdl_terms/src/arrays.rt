@@ -1,5 +1,5 @@
 // Which elements of a schema are items of arrays ('Arrays and Optional Elements').
-ghost use Rattle.dfdl_terms.specs.Arrays.{is_item_in, is_item_of, is_marked, MarksItems};
+ghost use Rattle.dfdl_terms.specs.Arrays.{item_marks, is_item_in, is_item_of, is_marked, MarksItems};
 ghost use Rattle.dfdl_terms.specs.Rows.{ChildrenBelow};
 ghost use Rattle.std.specs.Prelude.{◌≡◌, ◌<◌, ◌||◌, ℕ, All, IfOk, IsTrue, length, nat_eq, slice_get, vec_len};
 ghost use Rattle.std.specs.List.{list_any};
@@ -27,7 +27,8 @@ impl Model for Items {
 impl Items {
     /// The items of these terms, by one pass over their rows.
     pub fn of(alloc: Global, terms: &Terms) -> Result<Items, AllocError>
-        ensures { IfOk result (λ items. MarksItems terms.now.rows items) }
+        ensures items { IfOk result (λ items. items ≡ item_marks terms.now.rows) }
+        ensures marks { MarksItems terms.now.rows (item_marks terms.now.rows) }
     {
         let mut marks = vec![in alloc; false; terms.rows() as usize]?;
         for row in 0..terms.rows() {

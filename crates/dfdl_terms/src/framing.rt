@@ -1,14 +1,15 @@
 ghost use Rattle.std.specs.Prelude.{◌≡◌, None};
 ghost use Rattle.dfdl_terms.specs.Framing.{no_fill};
 
-use crate::asserting::Tests;
 use crate::delimiters::Delimiter;
+use crate::statement::Statements;
 
-/// What stands around the content of a component: tests of patterns before all else, fill, in bits, and its initiator and terminator
-/// ('Framing').
+/// What stands around the content of a component: statements before all else, fill, in bits, its initiator and terminator, and statements
+/// behind all ('Framing', 'DFDL Schema Component Model').
 #[derive(Debug, Clone, Copy, PartialEq, Eq)]
 pub struct Framing {
-    pub tests: Tests,
+    /// Tests of patterns, and what sets variables where a sequence or a choice begins.
+    pub before: Statements,
     /// How many bits are passed over before the alignment.
     pub leading_skip: u32,
     /// The initiator, or the content without one, begins at a multiple of so many bits; with 1 it begins anywhere.
@@ -19,20 +20,23 @@ pub struct Framing {
     pub terminator: Option<Delimiter>,
     /// How many bits are passed over behind the content and its terminator.
     pub trailing_skip: u32,
+    /// What sets variables where an element ends, and tests of expressions.
+    pub behind: Statements,
 }
 
 impl Framing {
-    /// Neither a test nor fill nor a delimiter.
+    /// Neither a statement nor fill nor a delimiter.
     pub fn none() -> Framing
         ensures { result ≡ no_fill }
     {
         Framing {
-            tests: Tests { first: 0, count: 0 },
+            before: Statements { first: 0, count: 0 },
             leading_skip: 0,
             alignment: 1,
             initiator: None,
             terminator: None,
             trailing_skip: 0,
+            behind: Statements { first: 0, count: 0 },
         }
     }
 }

@@ -5,29 +5,32 @@
 #![tactic(auto)]
 
 pub mod arrays;
-pub mod asserting;
 pub mod delimiters;
 pub mod event;
 pub mod framing;
+pub mod names;
 pub mod occurs;
 pub mod prefix;
 pub mod representations;
 pub mod row;
 pub mod slots;
+pub mod statement;
 pub mod terms;
 pub mod text;
 pub mod value_list;
 
 pub use arrays::Items;
-pub use asserting::{PatternTest, Tests};
 pub use delimiters::{Delimiter, Delimiters};
+pub use dfdl_vars::VarDef;
 pub use event::Event;
 pub use framing::Framing;
+pub use names::NameNumbers;
 pub use occurs::Occurs;
 pub use prefix::{LengthUnit, Prefix};
 pub use representations::Representations;
 pub use row::{Primitive, Row, RowId, RowList, Tables};
 pub use slots::{Slot, SlotList};
+pub use statement::{Calculation, ExpressionTest, PatternTest, Setting, Statement, Statements};
 pub use terms::{TermFault, Terms};
 pub use text::{
     DefaultForm, NilForm, NilOctets, NilTexts, NilValues, OctetForm, PatternForm, ScanForm,

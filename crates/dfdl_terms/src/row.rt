@@ -1,17 +1,19 @@
 ghost use Rattle.std.specs.Prelude.{◌≡◌, ◌<◌, List};
 ghost use Rattle.dfdl_terms.specs.Rows.{IsWritten};
 
-use crate::asserting::PatternTest;
 use crate::delimiters::{Delimiter, Delimiters};
+use crate::names::NameNumbers;
 use crate::prefix::Prefix;
 use crate::representations::Representations;
 use crate::slots::SlotList;
+use crate::statement::{Statement, Statements};
 use crate::text::{
     DefaultForm, NilOctets, NilValues, OctetForm, PatternForm, TextForm, text_is_written,
 };
 use dfdl_forms::{BitTruthForm, IntForm, PackedForm};
 use dfdl_separators::{SeparatorPosition, SeparatorSuppressionPolicy};
 use dfdl_value::{Simple, TextValue};
+use dfdl_vars::VarDef;
 use std::marker::Model;
 
 /// The number of a row, counted from 0.
@@ -113,11 +115,12 @@ pub enum Row {
         prim: u32,
     },
     /// One element: its local name, its simple type if it has one, the representations that are tried before its normal one,
-    /// and its content.
+    /// the statements that are done behind it, and its content.
     Elem {
         name: TextValue,
         simple: Option<Simple>,
         tried: Representations,
+        behind: Statements,
         body: RowId,
     },
     /// A sequence of rows.
@@ -186,10 +189,14 @@ pub enum Row {
         /// An initiator that is found at the begin of one tells that it is the one that stands there.
         initiated: bool,
     },
-    /// Tests whether the pattern of this number in the tables matches in the data from here on ('DFDL Schema Component Model', on
-    /// asserts and discriminators).
-    Test {
-        test: u32,
+    /// Does the statement of this number in the tables ('DFDL Schema Component Model').
+    Statement {
+        statement: u32,
+    },
+    /// A row of a sequence or a choice, behind which statements are done ('DFDL Schema Component Model').
+    Concluded {
+        behind: Statements,
+        body: RowId,
     },
     /// A row whose elements the infoset doesn't have ('Sequence Groups', on hidden groups).
     Hidden {
@@ -210,7 +217,9 @@ pub enum Row {
 pub struct Tables {
     primitives: Vec<Primitive>,
     delimiters: Vec<Delimiters>,
-    tests: Vec<PatternTest>,
+    statements: Vec<Statement>,
+    names: NameNumbers,
+    variables: Vec<VarDef>,
 }
 
 impl Model for Tables {
@@ -218,21 +227,37 @@ impl Model for Tables {
 
     ghost Value = { Named };
 
-    ghost view = { λ t. record { primitives = t.primitives.items; delimiters = t.delimiters.items; tests = t.tests.items } };
+    ghost view = { λ t. record {
+      primitives = t.primitives.items;
+      delimiters = t.delimiters.items;
+      statements = t.statements.items;
+      names = t.names;
+      variables = t.variables.items;
+    } };
 }
 
 impl Tables {
     pub fn new(
         primitives: Vec<Primitive>,
         delimiters: Vec<Delimiters>,
-        tests: Vec<PatternTest>,
+        statements: Vec<Statement>,
+        names: NameNumbers,
+        variables: Vec<VarDef>,
     ) -> Tables
-        ensures { result ≡ record { primitives = primitives.items; delimiters = delimiters.items; tests = tests.items } }
+        ensures { result ≡ record {
+          primitives = primitives.items;
+          delimiters = delimiters.items;
+          statements = statements.items;
+          names = names;
+          variables = variables.items;
+        } }
     {
         Tables {
             primitives,
             delimiters,
-            tests,
+            statements,
+            names,
+            variables,
         }
     }
 
@@ -249,10 +274,23 @@ impl Tables {
         self.delimiters.as_slice()
     }
 
-    /// The tests of patterns.
-    pub fn tests(&self) -> &[PatternTest]
-        ensures { result.now ≡ self.now.tests }
+    pub fn statements(&self) -> &[Statement]
+        ensures { result.now ≡ self.now.statements }
     {
-        self.tests.as_slice()
+        self.statements.as_slice()
+    }
+
+    /// The numbers of the local names of elements, by the numbers of their rows.
+    pub fn names(&self) -> &NameNumbers
+        ensures { result.now ≡ self.now.names }
+    {
+        &self.names
+    }
+
+    /// The variables that the schema defines, by their numbers.
+    pub fn variables(&self) -> &[VarDef]
+        ensures { result.now ≡ self.now.variables }
+    {
+        self.variables.as_slice()
     }
 }

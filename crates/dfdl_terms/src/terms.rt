@@ -1,10 +1,11 @@
 ghost use Rattle.dfdl_terms.specs.Rows.{most_rows, Nests, IsFirstBad, ChildrenBelow};
-ghost use Rattle.dfdl_terms.specs.Messages.{message_of};
+ghost use Rattle.dfdl_terms.specs.Messages.{message_in, message_of};
 ghost use Rattle.std.specs.Prelude.{ℕ, option_map, IfSome, IfNone, ◌≡◌, ◌<◌, ◌≤◌, ◌↔◌, ◌-◌, List, length, All, IsTrue, IfOk, IsOk, IsErrOf, Some, slice_get, vec_len};
 
-use super::asserting::PatternTest;
 use super::row::{Row, RowId, Tables};
 use super::slots::Slot;
+use super::statement::Statement;
+use dfdl_value::TextValue;
 use std::alloc::Global;
 use std::marker::Model;
 use thiserror::Error;
@@ -78,17 +79,29 @@ fn has_children_below(row: &Row, bound: RowId) -> bool
         Row::Repeat { body, .. } => body.number() < bound.number(),
         Row::Optional { body, .. } => body.number() < bound.number(),
         Row::Choice { branches, .. } => are_below(branches.as_slice(), bound),
-        Row::Test { .. } => true,
+        Row::Statement { .. } => true,
+        Row::Concluded { body, .. } => body.number() < bound.number(),
         Row::Hidden { body } => body.number() < bound.number(),
         Row::Separated { slots, .. } => slots_are_below(slots.as_slice(), bound),
     }
 }
 
-// What the schema says of a test, if it says anything.
-fn said(test: &PatternTest) -> Option<&str>
-    ensures { option_map (λ m. m.now) result ≡ test.now.message }
+// What the schema says of a statement that is a test, if it says anything.
+fn said(statement: &Statement) -> Option<&str>
+    ensures { option_map (λ m. m.now) result ≡ message_in (Some statement.now) }
 {
-    match &test.message {
+    match statement {
+        Statement::Pattern(test) => text_of(&test.message),
+        Statement::Expression(test) => text_of(&test.message),
+        Statement::Setting(_) => None,
+        Statement::Calculation(_) => None,
+    }
+}
+
+fn text_of(message: &Option<TextValue>) -> Option<&str>
+    ensures { option_map (λ m. m.now) result ≡ message.now }
+{
+    match message {
         Some(message) => Some(message.as_str()),
         None => None,
     }
@@ -157,8 +170,8 @@ impl Terms {
     pub fn message(&self, test: u32) -> Option<&str>
         ensures { option_map (λ m. m.now) result ≡ message_of self.now test }
     {
-        match self.tables.tests().get(test as usize) {
-            Some(test) => said(test),
+        match self.tables.statements().get(test as usize) {
+            Some(statement) => said(statement),
             None => None,
         }
     }

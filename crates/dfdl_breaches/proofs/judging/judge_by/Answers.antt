@@ -1,4 +1,4 @@
-use Rattle.std.proofs.Common.{◌∙◌, ap, Option, Some, false}
+use Rattle.std.proofs.Common.{◌∙◌, ap, Option, Some}
 use Rattle.dfdl_forms.specs.declared.encoding.Encoding.{Encoding}
 use Rattle.dfdl_checks.specs.JudgedShown.{judged_of}
 use Rattle.dfdl_checks.specs.Patterns.{form_by}
@@ -13,21 +13,11 @@ told_of-requires-clause-pattern g c =
 
 pub returns-in-Ok : goal.returns-in-Ok
 returns-in-Ok g c =
-    told_unrefused (judged_of c.args.subject.now) c.requires.subject _ _ _ _ _
+    told_unrefused (judged_of c.args.subject.now) c.requires.subject _ _ _ _ _ _
     (same_seen _ _ (c.in-Ok.ensures.still (λ is. cc)) (c.in-Ok.ensures.last_kept (λ is. cc))) c.told_of.ensures
 
 pub returns-in-Err-Refused : goal.returns-in-Err-Refused
 returns-in-Err-Refused g c =
-    told_refused (judged_of c.args.subject.now) c.requires.subject _ _ _ _ c.args.text.now c.requires.text
+    told_refused (judged_of c.args.subject.now) c.requires.subject _ _ _ _ _ c.args.text.now c.requires.text
     (record { later = c.in-Err-Refused.ensures.later; rose = c.in-Err-Refused.ensures.cause (cc); last = c.in-Err-Refused.ensures.last (cc) })
     c.told_of_refused.ensures
-
-pub returns : goal.returns
-returns g c = (
-  false,
-  same_seen
-      (record { faults = g.P.Patterns.faults c.build.new.patterns; last = g.P.Patterns.last_refused c.build.new.patterns })
-      (record { faults = g.P.Patterns.faults c.args.patterns.now; last = g.P.Patterns.last_refused c.args.patterns.now })
-      (c.in-Err-OutOfMemory.ensures.still (λ is. cc)) (c.in-Err-OutOfMemory.ensures.last_kept (λ is. cc)),
-  tt,
-)

@@ -1,6 +1,10 @@
 use Rattle.std.proofs.Common.{refl, sym, ◌∙◌}
 use Rattle.dfdl_chains.specs.Kinds.{kind_at}
-use Rattle.dfdl_breaches.specs.Hidden.{hides, hiding_at}
+use Rattle.dfdl_chains.specs.Facts.{facts_at}
+use Rattle.dfdl_checks.specs.Numbers.{type_of}
+use Rattle.dfdl_breaches.specs.Hidden.{hides, hiding_at, kind_where}
+use Rattle.dfdl_breaches.specs.Roots.{chain_at}
+use Rattle.dfdl_breaches.proofs.Calculating.{still_represented, typed_before}
 use Rattle.dfdl_breaches.specs.Judging.{judged_at}
 use Rattle.dfdl_checks.specs.declared.purpose.Purpose.TheVariants.{Unparsing}
 use Rattle.dfdl_breaches.proofs.Forms.{bounded_before, none_before}
@@ -21,12 +25,16 @@ returns-clause-parsing c = λ refused documents own. none_before c.prefixes_are_
 pub returns-clause-kind : goal.returns-clause-kind
 returns-clause-kind c = λ purpose refused documents own p is.
     sym (same_type (hides (hiding_at purpose documents own)) (kind_at documents own))
-    ∙ c.primitives_are_bounded.ensures.kind (judged_at purpose refused documents own) p is
+    ∙ typed_before purpose (facts_at documents own) (chain_at documents own)
+    (kind_where (hides (hiding_at purpose documents own)) (kind_at documents own)) (type_of p)
+    (c.primitives_are_bounded.ensures.kind (judged_at purpose refused documents own) p is)
 
 pub returns-clause-sound : goal.returns-clause-sound
-returns-clause-sound c = λ purpose refused documents own sound simple.
+returns-clause-sound c = λ purpose refused documents own sound uncalculated simple.
     c.sound_elements_have_primitives.ensures.primitive (judged_at purpose refused documents own) (first_none _ _ sound)
-    (still_simple (hides (hiding_at purpose documents own)) (kind_at documents own) ∙ simple)
+    (still_represented purpose (facts_at documents own) (chain_at documents own)
+    (kind_where (hides (hiding_at purpose documents own)) (kind_at documents own)) uncalculated
+    ∙ (still_simple (hides (hiding_at purpose documents own)) (kind_at documents own) ∙ simple))
 
 pub returns-clause-nil : goal.returns-clause-nil
 returns-clause-nil c = λ purpose refused documents own p is. c.representations_are_bounded.ensures.nil (judged_at purpose refused documents own) p is

@@ -1,4 +1,4 @@
-use Rattle.std.proofs.Common.{ap, codes}
+use Rattle.std.proofs.Common.{codes}
 use Rattle.dfdl_references.specs.Writers.{writer_of}
 use Rattle.dfdl_scope.specs.Shown.{chain_of}
 use Rattle.dfdl_breaches.proofs.NamedSchemes.{of_name, of_no_name}

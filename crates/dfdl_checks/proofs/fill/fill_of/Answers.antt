@@ -6,7 +6,15 @@ use Rattle.dfdl_checks.proofs.fill.fill_of.Goals as goal
 
 -- fill by its parts
 abbrev fill : ℕ → ℕ → ℕ → Framing
-fill leading alignment trailing = record { tests = no_fill.tests; leading_skip = leading; alignment = alignment; initiator = None; terminator = None; trailing_skip = trailing }
+fill leading alignment trailing = record {
+  before = no_fill.before;
+  leading_skip = leading;
+  alignment = alignment;
+  initiator = None;
+  terminator = None;
+  trailing_skip = trailing;
+  behind = no_fill.behind;
+}
 
 pub returns : goal.returns
 returns c = three fill c.skip_of.ensures c.alignment_of.ensures c.skip_of-2.ensures

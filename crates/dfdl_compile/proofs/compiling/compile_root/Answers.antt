@@ -1,124 +1,114 @@
-use Rattle.std.proofs.Common.{◌≡◌, ◌∙◌, List, None, Some, ap, length, subst, sym}
+use Rattle.std.proofs.Common.{◌≡◌, ◌∙◌, All, List, Ok, Some, ap, length, subst, sym}
+use Rattle.std.specs.List.{AllZip}
 use Rattle.std.proofs.lemmas.List.{length-map}
-use Rattle.dfdl_checks.specs.declared.purpose.Purpose.{Purpose}
+use Rattle.dfdl_checks.specs.Forms.{IsWhole}
 use Rattle.dfdl_chains.specs.Everywhere.{all_sites}
-use Rattle.dfdl_terms.specs.Tables.{Named}
+use Rattle.dfdl_terms.specs.Rows.{HasElementLast, HasPlainRows, Table}
+use Rattle.dfdl_terms.specs.declared.row.Row.{Row}
 use Rattle.dfdl_breaches.specs.Judging.{judgement_at}
 use Rattle.dfdl_breaches.specs.declared.judgement.Judgement.{Judgement}
-use Rattle.dfdl_compile.specs.Compiled.{by_root, first_recursive}
-use Rattle.dfdl_compile.specs.Components.{components_of}
-use Rattle.dfdl_compile.specs.Faults.{IsFaultOf}
-use Rattle.dfdl_compile.proofs.Ending.{root_table, root_fault, root_within}
-use Rattle.dfdl_compile.proofs.Fitting.{each_hides}
-use Rattle.dfdl_compile.proofs.Taken.{bare_typed, bounded, have, have_lists, have_tests, leaves_typed, named_are, root_element, bare_components, wholes}
+use Rattle.dfdl_written.specs.declared.noted.Noted.{Noted}
+use Rattle.dfdl_compile.specs.Compiled.{Laid, by_root, laid, told_of}
+use Rattle.dfdl_compile.specs.Primitives.{HasBareTypedLeaves, HasTypedLeaves}
+use Rattle.dfdl_compile.specs.Shown.{EndsWithElement, IsAsWritten, told_shown}
+use Rattle.dfdl_compile.proofs.Finishing.{all_end, all_faults, both, if_there, laid_is, rows_fault, told_is}
+use Rattle.dfdl_compile.proofs.Noted.{all_stated, noted_are}
+use Rattle.dfdl_compile.proofs.Taken.{bounded, lists_are, tables_are, wholes}
+use Rattle.dfdl_compile.proofs.Typed.{bare_typed, leaves_typed}
 use Rattle.dfdl_compile.proofs.compiling.compile_root.Goals as goal
 
-pub gather-requires-clause-told : goal.gather-requires-clause-told
-gather-requires-clause-told c =
-    ap (λ (js : List Judgement). length js) (c.as_slice.ensures.value ∙ c.requires.told.1)
+pub lay-requires-clause-told : goal.lay-requires-clause-told
+lay-requires-clause-told c = (c.requires.told.0, c.as_slice.ensures.value ∙ c.requires.told.1)
+
+pub tell-requires-clause-told : goal.tell-requires-clause-told
+tell-requires-clause-told c =
+    ap (λ (js : List Judgement). length js) c.requires.told.1
     ∙ length-map (all_sites c.args.schema.now) (judgement_at c.args.purpose c.requires.told.0 c.args.schema.now)
 
-pub gather-requires-clause-hidden : goal.gather-requires-clause-hidden
-gather-requires-clause-hidden c =
-    each_hides c.args.purpose c.requires.told.0 c.args.schema.now (λ purpose own content is. c.hidden_groups_are_within.ensures purpose c.args.schema.now own content is)
-    c.as_slice.result.now (c.as_slice.ensures.value ∙ c.requires.told.1)
+pub tell-requires-clause-stated : goal.tell-requires-clause-stated
+tell-requires-clause-stated c =
+    all_stated c.args.purpose c.requires.told.0 c.args.schema.now
+    (λ own within. c.told_statements_are_within.ensures.checks c.args.purpose c.requires.told.0 c.args.schema.now own within)
+    (λ own within. c.told_statements_are_within.ensures.settings c.args.purpose c.args.schema.now own within) c.args.judgements.items c.requires.told.1
 
-pub ordered-requires : goal.ordered-requires
-ordered-requires c = (c.requires.told.0, c.in_ok-gathered.ensures.gathered c.requires.told.0 (c.as_slice.ensures.value ∙ c.requires.told.1))
+pub finish-requires-clause-named : goal.finish-requires-clause-named
+finish-requires-clause-named c = λ named primitives delimiters counted.
+    c.in_ok-made.ensures.named c.requires.told.0 (c.as_slice.ensures.value ∙ c.requires.told.1) named
+    (primitives ∙ tables_are c.args.purpose c.requires.told.0 c.args.schema.now c.args.judgements.items c.in_ok-told.told.primitives.items c.requires.told.1 c.in_ok-told.ensures.primitives)
+    (delimiters ∙ lists_are c.args.purpose c.requires.told.0 c.args.schema.now c.args.judgements.items c.in_ok-told.told.delimiters.items c.requires.told.1 c.in_ok-told.ensures.delimiters)
+    (counted ∙ ap (λ (ns : List Noted). length ns) (noted_are c.args.purpose c.requires.told.0 c.args.schema.now c.args.judgements.items c.in_ok-told.told.noted.items c.requires.told.1 c.in_ok-told.ensures.noted))
 
-pub terms_of-requires-clause-within : goal.terms_of-requires-clause-within
-terms_of-requires-clause-within c =
-    root_within c.args.purpose c.requires.told.0 c.args.schema.now c.args.root c.in_ok-components.components c.number-number.result
-    (c.in_ok-components.ensures.components c.requires.told.0 (c.in_ok-gathered.ensures.gathered c.requires.told.0 (c.as_slice.ensures.value ∙ c.requires.told.1))
-    ∙ ap (λ (q : Purpose). components_of q c.requires.told.0 c.args.schema.now) c.in_ok-gathered.ensures.purpose)
-    c.number-number.ensures c.requires.within
-
-pub terms_of-requires-clause-primitives : goal.terms_of-requires-clause-primitives
-terms_of-requires-clause-primitives c =
-    have c.args.purpose c.requires.told.0 c.args.schema.now c.in_ok-components.components c.in_ok-tables.tables.primitives
-    (c.in_ok-components.ensures.components c.requires.told.0 (c.in_ok-gathered.ensures.gathered c.requires.told.0 (c.as_slice.ensures.value ∙ c.requires.told.1))
-    ∙ ap (λ (q : Purpose). components_of q c.requires.told.0 c.args.schema.now) c.in_ok-gathered.ensures.purpose)
-    (ap (λ (n : Named). n.primitives) (named_are c.args.purpose c.requires.told.0 c.args.schema.now c.args.judgements.items c.in_ok-tables.tables c.requires.told.1 c.in_ok-tables.ensures.primitives c.in_ok-tables.ensures.delimiters c.in_ok-tables.ensures.tests))
-
-pub terms_of-requires-clause-delimiters : goal.terms_of-requires-clause-delimiters
-terms_of-requires-clause-delimiters c =
-    have_lists c.args.purpose c.requires.told.0 c.args.schema.now c.in_ok-components.components c.in_ok-tables.tables.delimiters
-    (c.in_ok-components.ensures.components c.requires.told.0 (c.in_ok-gathered.ensures.gathered c.requires.told.0 (c.as_slice.ensures.value ∙ c.requires.told.1))
-    ∙ ap (λ (q : Purpose). components_of q c.requires.told.0 c.args.schema.now) c.in_ok-gathered.ensures.purpose)
-    (ap (λ (n : Named). n.delimiters) (named_are c.args.purpose c.requires.told.0 c.args.schema.now c.args.judgements.items c.in_ok-tables.tables c.requires.told.1 c.in_ok-tables.ensures.primitives c.in_ok-tables.ensures.delimiters c.in_ok-tables.ensures.tests))
-
-pub terms_of-requires-clause-tests : goal.terms_of-requires-clause-tests
-terms_of-requires-clause-tests c =
-    have_tests c.args.purpose c.requires.told.0 c.args.schema.now c.in_ok-components.components c.in_ok-tables.tables.tests
-    (c.in_ok-components.ensures.components c.requires.told.0 (c.in_ok-gathered.ensures.gathered c.requires.told.0 (c.as_slice.ensures.value ∙ c.requires.told.1))
-    ∙ ap (λ (q : Purpose). components_of q c.requires.told.0 c.args.schema.now) c.in_ok-gathered.ensures.purpose)
-    (ap (λ (n : Named). n.tests) (named_are c.args.purpose c.requires.told.0 c.args.schema.now c.args.judgements.items c.in_ok-tables.tables c.requires.told.1 c.in_ok-tables.ensures.primitives c.in_ok-tables.ensures.delimiters c.in_ok-tables.ensures.tests))
-
-pub terms_of-requires-clause-bounded : goal.terms_of-requires-clause-bounded
-terms_of-requires-clause-bounded c =
+pub finish-requires-clause-bounded : goal.finish-requires-clause-bounded
+finish-requires-clause-bounded c =
     bounded c.args.purpose c.requires.told.0 c.args.schema.now c.sound_elements_have_bounded_primitives.ensures.bounded
     c.sound_elements_have_bounded_primitives.ensures.prefix c.sound_elements_have_bounded_primitives.ensures.nil
-    c.sound_elements_have_bounded_primitives.ensures.empty c.in_ok-tables.tables.primitives
-    (ap (λ (n : Named). n.primitives) (named_are c.args.purpose c.requires.told.0 c.args.schema.now c.args.judgements.items c.in_ok-tables.tables c.requires.told.1 c.in_ok-tables.ensures.primitives c.in_ok-tables.ensures.delimiters c.in_ok-tables.ensures.tests))
-    c.in_ok-tables.ensures.written
+    c.sound_elements_have_bounded_primitives.ensures.empty c.in_ok-told.told.primitives.items
+    (tables_are c.args.purpose c.requires.told.0 c.args.schema.now c.args.judgements.items c.in_ok-told.told.primitives.items c.requires.told.1 c.in_ok-told.ensures.primitives)
+    c.in_ok-told.ensures.written
 
-pub returns-in-Ok-clause-rows : goal.returns-in-Ok-clause-rows
-returns-in-Ok-clause-rows c = λ refused told.
-    root_table c.args.purpose refused c.args.schema.now c.args.depth c.args.rows c.args.root c.in_ok-components.components c.number-number.result c.in-Ok.terms
-    (c.in_ok-components.ensures.components refused (c.in_ok-gathered.ensures.gathered refused (c.as_slice.ensures.value ∙ told))
-    ∙ ap (λ (q : Purpose). components_of q refused c.args.schema.now) c.in_ok-gathered.ensures.purpose)
-    c.number-number.ensures
-    (subst (λ (q : Purpose). first_recursive (components_of q refused c.args.schema.now).uses ≡ None) c.in_ok-gathered.ensures.purpose
-    (c.in_ok-components.ensures.none refused (c.in_ok-gathered.ensures.gathered refused (c.as_slice.ensures.value ∙ told))))
-    c.in-Ok.ensures.rows
-    (c.in-Ok.ensures.tables ∙ (named_are c.args.purpose refused c.args.schema.now c.args.judgements.items c.in_ok-tables.tables told c.in_ok-tables.ensures.primitives c.in_ok-tables.ensures.delimiters c.in_ok-tables.ensures.tests))
+pub returns-clause-rows : goal.returns-clause-rows
+returns-clause-rows c = λ refused told.
+    all_end c.args.schema.now (by_root c.args.purpose refused c.args.schema.now c.args.depth c.args.rows (Some c.args.root))
+    (laid c.in_ok-made.made.items (told_shown c.in_ok-told.told c.in_ok-variables.variables.items)) c.finish.result
+    (c.in_ok-made.ensures.rows refused (c.as_slice.ensures.value ∙ told)
+    ∙ ap (λ (l : Laid). Ok l) (sym (laid_is c.in_ok-made.made.items (told_shown c.in_ok-told.told c.in_ok-variables.variables.items) (told_of c.args.purpose refused c.args.schema.now)
+    (told_is c.args.purpose refused c.args.schema.now c.in_ok-told.told c.in_ok-variables.variables.items
+    (tables_are c.args.purpose refused c.args.schema.now c.args.judgements.items c.in_ok-told.told.primitives.items told c.in_ok-told.ensures.primitives)
+    (lists_are c.args.purpose refused c.args.schema.now c.args.judgements.items c.in_ok-told.told.delimiters.items told c.in_ok-told.ensures.delimiters)
+    (noted_are c.args.purpose refused c.args.schema.now c.args.judgements.items c.in_ok-told.told.noted.items told c.in_ok-told.ensures.noted)
+    c.in_ok-variables.ensures.items))))
+    c.finish.ensures.settled
 
 pub returns-clause-fault : goal.returns-clause-fault
 returns-clause-fault c = λ refused told.
-    subst (IsFaultOf (by_root c.args.purpose refused c.args.schema.now c.args.depth c.args.rows (Some c.args.root))) (sym c.fault_of.ensures)
-    (root_fault c.args.purpose refused c.args.schema.now c.args.depth c.args.rows c.args.root c.in_ok-components.components c.number-number.result c.in-Err.fault
-    (c.in_ok-components.ensures.components refused (c.in_ok-gathered.ensures.gathered refused (c.as_slice.ensures.value ∙ told))
-    ∙ ap (λ (q : Purpose). components_of q refused c.args.schema.now) c.in_ok-gathered.ensures.purpose)
-    c.number-number.ensures
-    (subst (λ (q : Purpose). first_recursive (components_of q refused c.args.schema.now).uses ≡ None) c.in_ok-gathered.ensures.purpose
-    (c.in_ok-components.ensures.none refused (c.in_ok-gathered.ensures.gathered refused (c.as_slice.ensures.value ∙ told))))
-    c.in-Err.ensures.fault)
+    all_faults c.args.schema.now (by_root c.args.purpose refused c.args.schema.now c.args.depth c.args.rows (Some c.args.root))
+    (laid c.in_ok-made.made.items (told_shown c.in_ok-told.told c.in_ok-variables.variables.items)) c.finish.result
+    (c.in_ok-made.ensures.rows refused (c.as_slice.ensures.value ∙ told)
+    ∙ ap (λ (l : Laid). Ok l) (sym (laid_is c.in_ok-made.made.items (told_shown c.in_ok-told.told c.in_ok-variables.variables.items) (told_of c.args.purpose refused c.args.schema.now)
+    (told_is c.args.purpose refused c.args.schema.now c.in_ok-told.told c.in_ok-variables.variables.items
+    (tables_are c.args.purpose refused c.args.schema.now c.args.judgements.items c.in_ok-told.told.primitives.items told c.in_ok-told.ensures.primitives)
+    (lists_are c.args.purpose refused c.args.schema.now c.args.judgements.items c.in_ok-told.told.delimiters.items told c.in_ok-told.ensures.delimiters)
+    (noted_are c.args.purpose refused c.args.schema.now c.args.judgements.items c.in_ok-told.told.noted.items told c.in_ok-told.ensures.noted)
+    c.in_ok-variables.ensures.items))))
+    c.finish.ensures.fault
 
-pub returns-in-Ok-clause-element : goal.returns-in-Ok-clause-element
-returns-in-Ok-clause-element c =
-    root_element c.args.purpose c.requires.told.0 c.args.schema.now c.args.root c.in_ok-components.components c.number-number.result c.in-Ok.terms
-    (c.in_ok-components.ensures.components c.requires.told.0 (c.in_ok-gathered.ensures.gathered c.requires.told.0 (c.as_slice.ensures.value ∙ c.requires.told.1))
-    ∙ ap (λ (q : Purpose). components_of q c.requires.told.0 c.args.schema.now) c.in_ok-gathered.ensures.purpose)
-    c.number-number.ensures c.requires.within c.requires.global c.in-Ok.ensures.root
+pub returns-clause-element : goal.returns-clause-element
+returns-clause-element c =
+    if_there (λ (t : Table). t.rows ≡ c.in_ok-made.made.items) HasElementLast c.finish.result c.finish.ensures.rows
+    (λ t is. subst (λ (rs : List Row). EndsWithElement rs) (sym is) c.in_ok-made.ensures.element)
 
-pub returns-in-Ok-clause-leaves : goal.returns-in-Ok-clause-leaves
-returns-in-Ok-clause-leaves c =
-    leaves_typed c.args.purpose c.requires.told.0 c.args.schema.now c.in_ok-components.components c.in-Ok.terms
-    (c.in_ok-components.ensures.components c.requires.told.0 (c.in_ok-gathered.ensures.gathered c.requires.told.0 (c.as_slice.ensures.value ∙ c.requires.told.1))
-    ∙ ap (λ (q : Purpose). components_of q c.requires.told.0 c.args.schema.now) c.in_ok-gathered.ensures.purpose)
-    (ap (λ (n : Named). n.primitives) (c.in-Ok.ensures.tables ∙ (named_are c.args.purpose c.requires.told.0 c.args.schema.now c.args.judgements.items c.in_ok-tables.tables c.requires.told.1 c.in_ok-tables.ensures.primitives c.in_ok-tables.ensures.delimiters c.in_ok-tables.ensures.tests)))
-    c.in-Ok.ensures.leaves
+pub returns-clause-leaves : goal.returns-clause-leaves
+returns-clause-leaves c =
+    if_there (λ (t : Table). (t.rows ≡ c.in_ok-made.made.items)
+    × ((t.primitives ≡ c.in_ok-told.told.primitives.items) × AllZip IsAsWritten c.in_ok-told.told.noted.items t.statements)) HasTypedLeaves c.finish.result
+    (both (λ (t : Table). t.rows ≡ c.in_ok-made.made.items)
+    (λ (t : Table). (t.primitives ≡ c.in_ok-told.told.primitives.items) × AllZip IsAsWritten c.in_ok-told.told.noted.items t.statements)
+    c.finish.result c.finish.ensures.rows
+    (both (λ (t : Table). t.primitives ≡ c.in_ok-told.told.primitives.items)
+    (λ (t : Table). AllZip IsAsWritten c.in_ok-told.told.noted.items t.statements) c.finish.result c.finish.ensures.primitives c.finish.ensures.written))
+    (λ t is. leaves_typed c.args.purpose c.requires.told.0 c.args.schema.now t c.in_ok-made.made.items is.0
+    (is.1.0 ∙ tables_are c.args.purpose c.requires.told.0 c.args.schema.now c.args.judgements.items c.in_ok-told.told.primitives.items c.requires.told.1 c.in_ok-told.ensures.primitives)
+    (subst (λ (ns : List Noted). AllZip IsAsWritten ns t.statements)
+    (noted_are c.args.purpose c.requires.told.0 c.args.schema.now c.args.judgements.items c.in_ok-told.told.noted.items c.requires.told.1 c.in_ok-told.ensures.noted) is.1.1)
+    (c.in_ok-made.ensures.leaves c.requires.told.0 (c.as_slice.ensures.value ∙ c.requires.told.1)))
 
-pub returns-in-Ok-clause-whole : goal.returns-in-Ok-clause-whole
-returns-in-Ok-clause-whole c = λ unparsing.
-    wholes c.args.purpose c.requires.told.0 c.args.schema.now unparsing c.sound_elements_have_bounded_primitives.ensures.whole
-    c.sound_elements_have_bounded_primitives.ensures.parsing c.sound_elements_have_bounded_primitives.ensures.normal c.in-Ok.terms.primitives
-    (ap (λ (n : Named). n.primitives) (c.in-Ok.ensures.tables ∙ (named_are c.args.purpose c.requires.told.0 c.args.schema.now c.args.judgements.items c.in_ok-tables.tables c.requires.told.1 c.in_ok-tables.ensures.primitives c.in_ok-tables.ensures.delimiters c.in_ok-tables.ensures.tests)))
+pub returns-clause-whole : goal.returns-clause-whole
+returns-clause-whole c = λ unparsing.
+    if_there (λ (t : Table). t.primitives ≡ c.in_ok-told.told.primitives.items) (λ (t : Table). All IsWhole t.primitives) c.finish.result c.finish.ensures.primitives
+    (λ t is. wholes c.args.purpose c.requires.told.0 c.args.schema.now unparsing c.sound_elements_have_bounded_primitives.ensures.whole
+    c.sound_elements_have_bounded_primitives.ensures.parsing c.sound_elements_have_bounded_primitives.ensures.normal t.primitives
+    (is ∙ tables_are c.args.purpose c.requires.told.0 c.args.schema.now c.args.judgements.items c.in_ok-told.told.primitives.items c.requires.told.1 c.in_ok-told.ensures.primitives))
 
-pub returns-in-Ok-clause-bare : goal.returns-in-Ok-clause-bare
-returns-in-Ok-clause-bare c = λ unparsing.
-    bare_typed c.args.purpose c.requires.told.0 c.args.schema.now c.in_ok-components.components c.in-Ok.terms
-    (c.in_ok-components.ensures.components c.requires.told.0 (c.in_ok-gathered.ensures.gathered c.requires.told.0 (c.as_slice.ensures.value ∙ c.requires.told.1))
-    ∙ ap (λ (q : Purpose). components_of q c.requires.told.0 c.args.schema.now) c.in_ok-gathered.ensures.purpose)
-    (ap (λ (n : Named). n.primitives) (c.in-Ok.ensures.tables ∙ (named_are c.args.purpose c.requires.told.0 c.args.schema.now c.args.judgements.items c.in_ok-tables.tables c.requires.told.1 c.in_ok-tables.ensures.primitives c.in_ok-tables.ensures.delimiters c.in_ok-tables.ensures.tests)))
-    (c.in-Ok.ensures.bare (bare_components c.requires.told.0 c.args.schema.now c.sound_elements_have_bounded_primitives.ensures.parsing
-    c.statements_are_for_parsing.ensures.tests c.statements_are_for_parsing.ensures.hidden c.args.purpose c.in_ok-components.components unparsing
-    (c.in_ok-components.ensures.components c.requires.told.0 (c.in_ok-gathered.ensures.gathered c.requires.told.0 (c.as_slice.ensures.value ∙ c.requires.told.1))
-    ∙ ap (λ (q : Purpose). components_of q c.requires.told.0 c.args.schema.now) c.in_ok-gathered.ensures.purpose)))
+pub returns-clause-bare : goal.returns-clause-bare
+returns-clause-bare c = λ unparsing.
+    if_there (λ (t : Table). (t.rows ≡ c.in_ok-made.made.items) × (t.primitives ≡ c.in_ok-told.told.primitives.items)) HasBareTypedLeaves c.finish.result
+    (both (λ (t : Table). t.rows ≡ c.in_ok-made.made.items) (λ (t : Table). t.primitives ≡ c.in_ok-told.told.primitives.items)
+    c.finish.result c.finish.ensures.rows c.finish.ensures.primitives)
+    (λ t is. bare_typed c.args.purpose c.requires.told.0 c.args.schema.now t c.in_ok-made.made.items is.0
+    (is.1 ∙ tables_are c.args.purpose c.requires.told.0 c.args.schema.now c.args.judgements.items c.in_ok-told.told.primitives.items c.requires.told.1 c.in_ok-told.ensures.primitives)
+    (c.in_ok-made.ensures.bare unparsing c.requires.told.0 (c.as_slice.ensures.value ∙ c.requires.told.1)))
 
-pub returns-in-Ok-clause-plain : goal.returns-in-Ok-clause-plain
-returns-in-Ok-clause-plain c = λ unparsing.
-    c.in-Ok.ensures.plain (bare_components c.requires.told.0 c.args.schema.now c.sound_elements_have_bounded_primitives.ensures.parsing
-    c.statements_are_for_parsing.ensures.tests c.statements_are_for_parsing.ensures.hidden c.args.purpose c.in_ok-components.components unparsing
-    (c.in_ok-components.ensures.components c.requires.told.0 (c.in_ok-gathered.ensures.gathered c.requires.told.0 (c.as_slice.ensures.value ∙ c.requires.told.1))
-    ∙ ap (λ (q : Purpose). components_of q c.requires.told.0 c.args.schema.now) c.in_ok-gathered.ensures.purpose))
+pub returns-clause-plain : goal.returns-clause-plain
+returns-clause-plain c = λ unparsing.
+    if_there (λ (t : Table). t.rows ≡ c.in_ok-made.made.items) (λ (t : Table). HasPlainRows t.rows) c.finish.result c.finish.ensures.rows
+    (λ t is. subst (λ (rs : List Row). HasPlainRows rs) (sym is) (c.in_ok-made.ensures.plain unparsing))

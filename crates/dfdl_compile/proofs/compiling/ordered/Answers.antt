@@ -13,7 +13,8 @@ order_of-requires c = closed c.args.gathered.purpose c.requires.0 c.args.schema.
     (λ purpose own content is. c.hidden_groups_are_within.ensures purpose c.args.schema.now own content is) c.args.gathered.uses c.requires.1.uses
 
 pub new-requires-clause-of_one : goal.new-requires-clause-of_one
-new-requires-clause-of_one c = are_of_one c.args.gathered.purpose c.requires.0 c.args.schema.now c.args.gathered.uses c.args.gathered.components.items c.args.gathered.refusals.items
+new-requires-clause-of_one c = are_of_one c.args.gathered.purpose c.requires.0 c.args.schema.now
+    (λ own text is. c.calculated_elements_are_simple.ensures c.args.gathered.purpose c.requires.0 c.args.schema.now own text is) c.args.gathered.uses c.args.gathered.components.items c.args.gathered.refusals.items
     c.args.gathered.places.items c.requires.1.uses c.requires.1.components c.requires.1.refusals c.requires.1.places
 
 pub returns-in-Ok-clause-components : goal.returns-in-Ok-clause-components

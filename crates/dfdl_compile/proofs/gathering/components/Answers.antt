@@ -1,6 +1,6 @@
 use Rattle.std.proofs.Common.{arith, map}
 use Rattle.dfdl_compile.specs.Components.{component_at}
-use Rattle.dfdl_compile.proofs.Fitting.{component_there, list_end, list_more, sites_within, tests_more}
+use Rattle.dfdl_compile.proofs.Fitting.{component_there, list_end, list_more, sites_within, statements_more}
 use Rattle.dfdl_compile.proofs.gathering.components.Goals as goal
 
 pub component_with-requires-clause-site : goal.component_with-requires-clause-site
@@ -8,7 +8,7 @@ component_with-requires-clause-site c = sites_within c.args.schema.now c.args.si
 
 pub loop-at-preserved : goal.loop-at-preserved
 loop-at-preserved c = record {
-  first = tests_more c.args.judgements.now c.loop-at.at _ c.index-judgements-at.result c.loop-at.first c.in_ok-first.first
+  first = statements_more c.args.judgements.now c.loop-at.at _ c.index-judgements-at.result c.loop-at.first c.in_ok-first.first
       (omega (arith, c.loop-at-test.true, c.requires.told)) c.index-judgements-at.is c.loop-at.invariant.first c.in_ok-first.ensures;
   made = λ refused told.
       list_more (component_at c.args.purpose refused c.args.schema.now) c.args.sites.now c.loop-at.at _ c.in_ok-component.component c.loop-at.made.items

@@ -1,15 +1,15 @@
-use Rattle.dfdl_json.proofs.Declares.{there, on_ok, below_elem, below_group, elem_visited, elem_less, parts_visited, parts_less, group_declares, group_steps, bare_visited, bare_less, leaf_declares, leaf_steps, skip_declares, skip_steps, align_declares, align_steps, initiator_declares, initiator_steps, terminator_declares, separator_declares, terminator_steps, separator_steps, below_scope, scope_declares, scope_steps, below_box, box_declares, box_steps, body_visited, body_less, prefixed_leaf_declares, prefixed_leaf_steps, below_prefixed_box, prefixed_box_declares, prefixed_box_steps, below_repeat, repeat_declares, repeat_steps, below_optional, optional_declares, optional_steps, below_choice, choice_declares, choice_steps, test_declares, test_steps, below_hidden, hidden_declares, hidden_steps, below_separated, separated_declares, separated_steps, no_row_declares, no_row_steps}
+use Rattle.dfdl_json.proofs.Declares.{there, on_ok, below_elem, below_group, elem_visited, elem_less, parts_visited, parts_less, group_declares, group_steps, bare_visited, bare_less, leaf_declares, leaf_steps, skip_declares, skip_steps, align_declares, align_steps, initiator_declares, initiator_steps, terminator_declares, separator_declares, terminator_steps, separator_steps, below_scope, below_concluded, scope_declares, concluded_declares, scope_steps, concluded_steps, below_box, box_declares, box_steps, body_visited, body_less, prefixed_leaf_declares, prefixed_leaf_steps, below_prefixed_box, prefixed_box_declares, prefixed_box_steps, below_repeat, repeat_declares, repeat_steps, below_optional, optional_declares, optional_steps, below_choice, choice_declares, choice_steps, statement_declares, statement_steps, below_hidden, hidden_declares, hidden_steps, below_separated, separated_declares, separated_steps, no_row_declares, no_row_steps}
 use Rattle.std.proofs.Common.{sym, ◌∙◌, ap, [], ◌++◌}
 use Rattle.dfdl_json.specs.Children.{bodies_of}
 use Rattle.dfdl_json.proofs.children.visit.Goals as goal
 
 pub returns-in_ok-push-in-Some-Elem-clause-same : goal.returns-in_ok-push-in-Some-Elem-clause-same
 returns-in_ok-push-in-Some-Elem-clause-same c =
-    elem_visited c.args.terms.now c.args.row _ _ _ _ _ _ _ (there _ _ _ c.in-Some-Elem.ensures.row c.in-Some-Elem.field-0-is) c.in_ok-push-in-Some-Elem.ensures.items
+    elem_visited c.args.terms.now c.args.row _ _ _ _ _ _ _ _ (there _ _ _ c.in-Some-Elem.ensures.row c.in-Some-Elem.field-0-is) c.in_ok-push-in-Some-Elem.ensures.items
 
 pub returns-in_ok-push-in-Some-Elem-clause-less : goal.returns-in_ok-push-in-Some-Elem-clause-less
 returns-in_ok-push-in-Some-Elem-clause-less c =
-    elem_less c.args.terms.now c.args.row [] _ _ _ _ _ (there _ _ _ c.in-Some-Elem.ensures.row c.in-Some-Elem.field-0-is) (below_elem _ _ _ _ _ _ c.in-Some-Elem.field-0-is c.in-Some-Elem.ensures.nests)
+    elem_less c.args.terms.now c.args.row [] _ _ _ _ _ _ (there _ _ _ c.in-Some-Elem.ensures.row c.in-Some-Elem.field-0-is) (below_elem _ _ _ _ _ _ _ c.in-Some-Elem.field-0-is c.in-Some-Elem.ensures.nests)
 
 pub returns-in-Some-Group-clause-same : goal.returns-in-Some-Group-clause-same
 returns-in-Some-Group-clause-same c = on_ok c.push_all.result _ _ c.push_all.ensures
@@ -153,13 +153,25 @@ returns-in-Some-PrefixedBox-clause-less c = on_ok c.push_all-in-Some-PrefixedBox
     (prefixed_box_steps c.args.terms.now c.args.row _ _ (there _ _ _ c.in-Some-PrefixedBox.ensures.row c.in-Some-PrefixedBox.field-0-is)
     (below_prefixed_box _ _ _ _ c.in-Some-PrefixedBox.field-0-is c.in-Some-PrefixedBox.ensures.nests)))
 
-pub returns-in-Some-Test-clause-same : goal.returns-in-Some-Test-clause-same
-returns-in-Some-Test-clause-same c =
-    bare_visited c.args.terms.now c.args.row _ _ (test_declares c.args.terms.now c.args.row _ (there _ _ _ c.in-Some-Test.ensures.row c.in-Some-Test.field-0-is))
+pub returns-in-Some-Statement-clause-same : goal.returns-in-Some-Statement-clause-same
+returns-in-Some-Statement-clause-same c =
+    bare_visited c.args.terms.now c.args.row _ _ (statement_declares c.args.terms.now c.args.row _ (there _ _ _ c.in-Some-Statement.ensures.row c.in-Some-Statement.field-0-is))
 
-pub returns-in-Some-Test-clause-less : goal.returns-in-Some-Test-clause-less
-returns-in-Some-Test-clause-less c =
-    bare_less c.args.terms.now c.args.row [] _ (test_steps c.args.terms.now c.args.row _ (there _ _ _ c.in-Some-Test.ensures.row c.in-Some-Test.field-0-is))
+pub returns-in-Some-Statement-clause-less : goal.returns-in-Some-Statement-clause-less
+returns-in-Some-Statement-clause-less c =
+    bare_less c.args.terms.now c.args.row [] _ (statement_steps c.args.terms.now c.args.row _ (there _ _ _ c.in-Some-Statement.ensures.row c.in-Some-Statement.field-0-is))
+
+pub returns-in-Some-Concluded-clause-same : goal.returns-in-Some-Concluded-clause-same
+returns-in-Some-Concluded-clause-same c = on_ok c.push_all-in-Some-Concluded.result _ _ c.push_all-in-Some-Concluded.ensures
+    (body_visited c.args.terms.now c.args.row c.args.elements.now.items _ c.in-Some-Concluded.body _
+    (concluded_declares c.args.terms.now c.args.row _ _ (there _ _ _ c.in-Some-Concluded.ensures.row c.in-Some-Concluded.field-0-is)
+    (below_concluded _ _ _ _ c.in-Some-Concluded.field-0-is c.in-Some-Concluded.ensures.nests)))
+
+pub returns-in-Some-Concluded-clause-less : goal.returns-in-Some-Concluded-clause-less
+returns-in-Some-Concluded-clause-less c = on_ok c.push_all-in-Some-Concluded.result _ _ c.push_all-in-Some-Concluded.ensures
+    (body_less c.args.terms.now c.args.row [] _ c.in-Some-Concluded.body _
+    (concluded_steps c.args.terms.now c.args.row _ _ (there _ _ _ c.in-Some-Concluded.ensures.row c.in-Some-Concluded.field-0-is)
+    (below_concluded _ _ _ _ c.in-Some-Concluded.field-0-is c.in-Some-Concluded.ensures.nests)))
 
 pub returns-in-Some-Hidden-clause-same : goal.returns-in-Some-Hidden-clause-same
 returns-in-Some-Hidden-clause-same c = on_ok c.push_all-in-Some-Hidden.result _ _ c.push_all-in-Some-Hidden.ensures

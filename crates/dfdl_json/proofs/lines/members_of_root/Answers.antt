@@ -1,4 +1,5 @@
-use Rattle.std.proofs.Common.{◌-◌, drop, arith}
+use Rattle.std.proofs.Common.{◌-◌, drop, arith, subst, sym}
+use Rattle.dfdl_terms.specs.Arrays.{MarksItems}
 use Rattle.dfdl_json.specs.Inside.{all_turned}
 use Rattle.dfdl_json.specs.Lines.{members_of}
 use Rattle.dfdl_json.proofs.Inner.{counted_up, node_put}
@@ -14,6 +15,6 @@ loop-at-preserved c =
     record {
       some = omega (arith, c.loop-at-test.true);
       within = omega (arith, before.within);
-      objects = node_put t text nodes c.in_ok-items.items c.in_ok-hidden.hidden at c.index-nodes-at.result c.put_node.new.objects.items before.some before.within c.index-nodes-at.is c.in_ok-items.ensures c.in_ok-hidden.ensures
+      objects = node_put t text nodes c.in_ok-items.items c.in_ok-hidden.hidden at c.index-nodes-at.result c.put_node.new.objects.items before.some before.within c.index-nodes-at.is (subst (MarksItems t.rows) (sym c.in_ok-items.ensures.items) c.in_ok-items.ensures.marks) c.in_ok-hidden.ensures
           (c.in_ok-put_node.ensures (λ j. all_turned (members_of t text at (drop at nodes) j)) (at - 1) (counted_up c.loop-at.objects.items at (λ j. all_turned (members_of t text at (drop at nodes) j)) before.some before.objects));
     }

@@ -1,7 +1,8 @@
-use Rattle.std.proofs.Common.{◌≡◌, ℕ, false, List, [], ◌∷◌, Option, None, All, ap, ◌∙◌, length, lit<}
+use Rattle.std.proofs.Common.{◌≡◌, ℕ, false, List, [], ◌∷◌, Option, None, All, ap, ◌∙◌, length, lit<, arith}
 use Rattle.std.proofs.lemmas.List.Elements.{All-cons, All-nil}
 use Rattle.dfdl_forms.specs.declared.simple.Simple.{Simple}
 use Rattle.dfdl_terms.specs.declared.representations.Representations.{Representations}
+use Rattle.dfdl_terms.specs.declared.statement.Statements.{Statements}
 use Rattle.dfdl_terms.specs.declared.row.Row.{Row}
 use Rattle.dfdl_terms.specs.declared.row.Row.TheVariants.{Elem, Group}
 use Rattle.dfdl_terms.specs.Rows.{HasElementLast, IsPrimitive, NamesWithin, Table, table_of}
@@ -11,8 +12,11 @@ use Rattle.dfdl_json.proofs.tests.nested.Goals as goal
 abbrev no_trials : Representations
 no_trials = record { nil = None; empty = None; refuses_empty = false; are_several = false }
 
-element_named : (n : Named) (row : Row) (x : List ℕ) (s : Option Simple) (i : ℕ) → row ≡ Elem x s no_trials i → NamesWithin n row
-element_named n row x s i is = rw is (tt, tt)
+abbrev none_behind : Statements
+none_behind = record { first = 0; count = 0 }
+
+element_named : (n : Named) (row : Row) (x : List ℕ) (s : Option Simple) (i : ℕ) → row ≡ Elem x s no_trials none_behind i → NamesWithin n row
+element_named n row x s i is = rw is ((tt, tt), omega arith)
 
 group_named : (n : Named) (row : Row) (children : List ℕ) → row ≡ Group children → NamesWithin n row
 group_named n row children is = rw is tt
@@ -22,7 +26,7 @@ all_at : {A : Type 0} (P : A → Type 0) (xs ys : List A) → xs ≡ ys → All 
 all_at P xs ys same all = rw same all
 
 last_there : (t : Table) (rows : List Row) (named : Named) (q0 q1 q2 q3 q4 q5 q6 q7 q8 q9 q10 q11 r : Row) (x : List ℕ) (s : Option Simple) (i : ℕ)
-    → t ≡ table_of rows named → rows ≡ q0 ∷ q1 ∷ q2 ∷ q3 ∷ q4 ∷ q5 ∷ q6 ∷ q7 ∷ q8 ∷ q9 ∷ q10 ∷ q11 ∷ r ∷ [] → r ≡ Elem x s no_trials i → HasElementLast t
+    → t ≡ table_of rows named → rows ≡ q0 ∷ q1 ∷ q2 ∷ q3 ∷ q4 ∷ q5 ∷ q6 ∷ q7 ∷ q8 ∷ q9 ∷ q10 ∷ q11 ∷ r ∷ [] → r ≡ Elem x s no_trials none_behind i → HasElementLast t
 last_there t rows named q0 q1 q2 q3 q4 q5 q6 q7 q8 q9 q10 q11 r x s i t_is rows_are r_is = rw (t_is, rows_are, r_is) tt
 
 all_thirteen : (P : Row → Type 0) (a b c d e f g h i j k l m : Row) → P a → P b → P c → P d → P e → P f → P g → P h → P i → P j → P k → P l → P m
@@ -41,9 +45,9 @@ build-requires-clause-named c =
     let P : Row → Type 0 = NamesWithin c.new-tables.result in
     let one : length c.new-tables.result.primitives ≡ 1 = ap (λ (n : Named). length n.primitives) c.new-tables.ensures ∙ ap length c.in_ok-forms.ensures.items in
     all_at P c.in_ok-rows.rows.items _ c.in_ok-rows.ensures.items
-    (all_thirteen P _ _ _ _ _ _ _ _ _ _ _ _ _ (rw one (lit< tt)) (element_named _ _ _ _ _ c.in_ok-element.ensures) (element_named _ _ _ _ _ c.in_ok-element-2.ensures)
-    (group_named _ _ _ c.in_ok-group.ensures) (group_named _ _ _ c.in_ok-group-2.ensures) tt (element_named _ _ _ _ _ c.in_ok-element-3.ensures)
-    (rw one (lit< tt, lit< tt)) (element_named _ _ _ _ _ c.in_ok-element-4.ensures) tt (group_named _ _ _ c.in_ok-group-3.ensures) (rw one (lit< tt)) (element_named _ _ _ _ _ c.in_ok-element-5.ensures))
+    (all_thirteen P _ _ _ _ _ _ _ _ _ _ _ _ _ (rw one (lit< tt)) (element_named c.new-tables.result _ _ _ _ c.in_ok-element.ensures) (element_named c.new-tables.result _ _ _ _ c.in_ok-element-2.ensures)
+    (group_named c.new-tables.result _ _ c.in_ok-group.ensures) (group_named c.new-tables.result _ _ c.in_ok-group-2.ensures) tt (element_named c.new-tables.result _ _ _ _ c.in_ok-element-3.ensures)
+    (rw one (lit< tt, lit< tt)) (element_named c.new-tables.result _ _ _ _ c.in_ok-element-4.ensures) tt (group_named c.new-tables.result _ _ c.in_ok-group-3.ensures) (rw one (lit< tt)) (element_named c.new-tables.result _ _ _ _ c.in_ok-element-5.ensures))
 
 pub build-requires-clause-bounded : goal.build-requires-clause-bounded
 build-requires-clause-bounded c =

@@ -3,8 +3,9 @@ use Rattle.dfdl_parse.specs.Machines.{step}
 use Rattle.dfdl_parse.specs.Shown.{limits_of, state_of}
 use Rattle.dfdl_parse.specs.Steps.{Moved}
 use Rattle.dfdl_parse.proofs.Opens.{holds}
-use Rattle.dfdl_parse.proofs.Goes.{advance, wait, stay, go_further, go_and_wait, agrees_padded, keeps_first, same_twice, reaches_first, still_agrees, still_low, still_reaches, still_seen, step-smaller, padded}
+use Rattle.dfdl_parse.proofs.Goes.{advance, wait, stay, go_further, go_and_wait, agrees_padded, keeps_first, reaches_first, still_agrees, still_low, still_reaches, still_seen, step-smaller, padded}
 use Rattle.dfdl_parse.proofs.Registers.{still_registered}
+use Rattle.dfdl_parse.proofs.Statings.{limits-twice}
 use Rattle.dfdl_parse.proofs.run.run.Goals as goal
 
 pub steps-init : goal.steps-init
@@ -12,7 +13,7 @@ steps-init g c = record {
   low = c.requires.base;
   holds = holds c.args.sight.now.base c.args.parser.now.focus c.args.parser.now.stack (state_of c.args.parser.now) c.requires.base;
   at = c.requires.at;
-  most = (refl, (refl, refl));
+  most = (refl, (refl, (refl, refl)));
   registered = c.requires.registered;
   steps = omega arith;
   gone = stay c.args.terms.now c.args.parser.now c.args.sight.now c.args.steps.now;
@@ -61,7 +62,7 @@ steps-preserved g c =
       low = low;
       holds = holds c.step.new.sight.base c.step.new.self.focus c.step.new.self.stack (state_of c.step.new.self) low;
       at = c.in_ok-waits.ensures.at;
-      most = same_twice c.args.parser.now c.steps.parser c.step.new.self c.steps.invariant.most c.in_ok-waits.ensures.most;
+      most = limits-twice c.args.parser.now c.steps.parser c.step.new.self c.steps.invariant.most c.in_ok-waits.ensures.most;
       registered = still_registered c.args.terms.now c.rows-rows.ensures.table.named c.steps.parser c.step.new.self c.steps.sight c.step.new.sight
           false c.steps.parser.far (c.step.new.steps - c.steps.steps) c.in_ok-waits.ensures.most moved c.steps.invariant.registered;
       steps = omega (arith, c.in_ok-waits.ensures.steps, c.steps.invariant.steps);

@@ -41,9 +41,9 @@ returns-clause-root c =
     (rows_end c.args.components.now c.facts.ensures.ordered c.facts.ensures.of_one c.args.root c.requires)
 
 pub returns-clause-named : goal.returns-clause-named
-returns-clause-named c = λ named has lists tests.
+returns-clause-named c = λ named has lists statements.
     subst (λ (rows : List Row). All (NamesWithin named) rows) (sym c.in_ok-all_rows.ensures)
-    (rows_named c.args.components.now c.facts.ensures.ordered c.facts.ensures.of_one named has lists tests c.args.root c.requires 0)
+    (rows_named c.args.components.now c.facts.ensures.ordered c.facts.ensures.of_one named has lists statements c.args.root c.requires 0)
 
 pub returns-clause-leaves : goal.returns-clause-leaves
 returns-clause-leaves c =

@@ -1,11 +1,11 @@
 use Rattle.std.proofs.Common.{refl}
-use Rattle.dfdl_breaches.specs.Builds.{never}
+use Rattle.dfdl_compile.specs.Settling.{nothing_free}
 use Rattle.dfdl_run.specs.Decided.{by_words, by_schema, by_data}
 use Rattle.dfdl_run.specs.CommandShown.{order_shown}
 use Rattle.dfdl_run.proofs.deciding.decide.Goals as goal
 
 pub returns-in-Err : goal.returns-in-Err
-returns-in-Err g c = (never, by_words c.in-Err.at c.in-Err.ensures.place (cc) refl)
+returns-in-Err g c = (nothing_free, by_words c.in-Err.at c.in-Err.ensures.place (cc) refl)
 
 pub returns-in-Ok-load_terms : goal.returns-in-Ok-load_terms
 returns-in-Ok-load_terms g c = (

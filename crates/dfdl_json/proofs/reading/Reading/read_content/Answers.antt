@@ -6,7 +6,7 @@ use Rattle.dfdl_json.specs.Found.{noted}
 use Rattle.dfdl_json.specs.Infosets.{simple_findings, complex_findings, findings, value_in}
 use Rattle.dfdl_json.specs.Reading.{coming, data_at}
 use Rattle.dfdl_json.proofs.Declares.{there, on_ok, on_ok_four, below_elem}
-use Rattle.dfdl_json.proofs.Contents.{left_same, simple_less, complex_less, simple_comes, complex_comes, bare_comes, leaf_says, group_says, skip_says, align_says, initiator_says, terminator_says, separator_says, scope_says, repeat_says, optional_says, choice_says, test_says, hidden_says, separated_says, box_says, prefixed_leaf_says, prefixed_box_says, no_row_says, less_left}
+use Rattle.dfdl_json.proofs.Contents.{left_same, simple_less, complex_less, simple_comes, complex_comes, bare_comes, leaf_says, group_says, skip_says, align_says, initiator_says, terminator_says, separator_says, scope_says, concluded_says, repeat_says, optional_says, choice_says, statement_says, hidden_says, separated_says, box_says, prefixed_leaf_says, prefixed_box_says, no_row_says, less_left}
 use Rattle.dfdl_json.proofs.reading.Reading.read_content.Goals as goal
 
 pub returns-in-Some-clause-same : goal.returns-in-Some-clause-same
@@ -16,8 +16,8 @@ returns-in-Some-clause-same c =
     on_ok_four c.read_simple.result _ _ _ _ _ c.read_simple.ensures.tasks c.read_simple.ensures.contents c.read_simple.ensures.names c.read_simple.ensures.found
     (λ tasks contents names found. left_same c.args.terms.now new.found old.tasks.items new.tasks.items old.contents.items new.contents.items old.around new.around tasks contents names
     ∙ simple_comes c.args.terms.now c.args.row (view c.args.content.now) old.around old.found old.tasks.items (data_at old.contents.items)
-    c.in-Some-Elem.name c.in-Some.kind _ c.in-Some-Elem.body new.found
-    (there _ _ _ c.in-Some-Elem.ensures.row (c.in-Some-Elem.field-0-is ∙ ap (λ s. Elem c.in-Some-Elem.name s c.in-Some-Elem.field-0-2 c.in-Some-Elem.body) c.in-Some.is))
+    c.in-Some-Elem.name c.in-Some.kind _ _ c.in-Some-Elem.body new.found
+    (there _ _ _ c.in-Some-Elem.ensures.row (c.in-Some-Elem.field-0-is ∙ ap (λ s. Elem c.in-Some-Elem.name s c.in-Some-Elem.field-0-2 c.in-Some-Elem.field-0-3 c.in-Some-Elem.body) c.in-Some.is))
     (found ∙ ap (λ n. fold noted old.found (simple_findings c.args.row (n ∷ old.around) (value_in c.in-Some.kind (view c.args.content.now)))) c.as_str.ensures))
 
 pub returns-in-None-simple-clause-same : goal.returns-in-None-simple-clause-same
@@ -25,9 +25,9 @@ returns-in-None-simple-clause-same c =
     let old = c.args.self.now in
     on_ok c.read_complex.result _ _ c.read_complex.ensures.same
     (λ same. complex_comes c.args.terms.now c.args.row (view c.args.content.now) old.around old.found old.tasks.items (data_at old.contents.items)
-    c.in-Some-Elem.name _ c.in-Some-Elem.body _
-    (there _ _ _ c.in-Some-Elem.ensures.row (c.in-Some-Elem.field-0-is ∙ ap (λ s. Elem c.in-Some-Elem.name s c.in-Some-Elem.field-0-2 c.in-Some-Elem.body) c.in-None-simple.is))
-    (below_elem _ _ _ _ _ _ c.in-Some-Elem.field-0-is c.in-Some-Elem.ensures.nests)
+    c.in-Some-Elem.name _ _ c.in-Some-Elem.body _
+    (there _ _ _ c.in-Some-Elem.ensures.row (c.in-Some-Elem.field-0-is ∙ ap (λ s. Elem c.in-Some-Elem.name s c.in-Some-Elem.field-0-2 c.in-Some-Elem.field-0-3 c.in-Some-Elem.body) c.in-None-simple.is))
+    (below_elem _ _ _ _ _ _ _ c.in-Some-Elem.field-0-is c.in-Some-Elem.ensures.nests)
     (same ∙ ap (λ n. fold noted old.found (complex_findings c.args.terms.now (findings c.args.terms.now) c.args.row (elements_in c.args.terms.now c.in-Some-Elem.body) (n ∷ old.around)
     (view c.args.content.now) ++ coming c.args.terms.now old.tasks.items (data_at old.contents.items) old.around)) c.as_str-in-None-simple.ensures))
 
@@ -37,8 +37,8 @@ returns-in-Some-clause-less c = on_ok c.read_simple.result _ _ c.read_simple.ens
 
 pub returns-in-None-simple-clause-less : goal.returns-in-None-simple-clause-less
 returns-in-None-simple-clause-less c = on_ok c.read_complex.result _ _ c.read_complex.ensures.less
-    (λ less. complex_less c.args.terms.now c.args.row _ _ _ c.in-Some-Elem.body c.args.self.now.tasks.items c.read_complex.new.self.tasks.items (there _ _ _ c.in-Some-Elem.ensures.row c.in-Some-Elem.field-0-is)
-    (below_elem _ _ _ _ _ _ c.in-Some-Elem.field-0-is c.in-Some-Elem.ensures.nests) less)
+    (λ less. complex_less c.args.terms.now c.args.row _ _ _ _ c.in-Some-Elem.body c.args.self.now.tasks.items c.read_complex.new.self.tasks.items (there _ _ _ c.in-Some-Elem.ensures.row c.in-Some-Elem.field-0-is)
+    (below_elem _ _ _ _ _ _ _ c.in-Some-Elem.field-0-is c.in-Some-Elem.ensures.nests) less)
 
 pub returns-in-Some-Leaf-clause-same : goal.returns-in-Some-Leaf-clause-same
 returns-in-Some-Leaf-clause-same c =
@@ -168,14 +168,23 @@ returns-in-Some-PrefixedBox-clause-same c =
 pub returns-in-Some-PrefixedBox-clause-less : goal.returns-in-Some-PrefixedBox-clause-less
 returns-in-Some-PrefixedBox-clause-less c = less_left c.args.terms.now c.args.row c.args.self.now.tasks.items
 
-pub returns-in-Some-Test-clause-same : goal.returns-in-Some-Test-clause-same
-returns-in-Some-Test-clause-same c =
+pub returns-in-Some-Statement-clause-same : goal.returns-in-Some-Statement-clause-same
+returns-in-Some-Statement-clause-same c =
     bare_comes c.args.terms.now c.args.row (view c.args.content.now) c.args.self.now.around c.args.self.now.found c.args.self.now.tasks.items
     (data_at c.args.self.now.contents.items)
-    (test_says c.args.terms.now c.args.row (view c.args.content.now) c.args.self.now.around _ (there _ _ _ c.in-Some-Test.ensures.row c.in-Some-Test.field-0-is))
+    (statement_says c.args.terms.now c.args.row (view c.args.content.now) c.args.self.now.around _ (there _ _ _ c.in-Some-Statement.ensures.row c.in-Some-Statement.field-0-is))
 
-pub returns-in-Some-Test-clause-less : goal.returns-in-Some-Test-clause-less
-returns-in-Some-Test-clause-less c = less_left c.args.terms.now c.args.row c.args.self.now.tasks.items
+pub returns-in-Some-Statement-clause-less : goal.returns-in-Some-Statement-clause-less
+returns-in-Some-Statement-clause-less c = less_left c.args.terms.now c.args.row c.args.self.now.tasks.items
+
+pub returns-in-Some-Concluded-clause-same : goal.returns-in-Some-Concluded-clause-same
+returns-in-Some-Concluded-clause-same c =
+    bare_comes c.args.terms.now c.args.row (view c.args.content.now) c.args.self.now.around c.args.self.now.found c.args.self.now.tasks.items
+    (data_at c.args.self.now.contents.items)
+    (concluded_says c.args.terms.now c.args.row (view c.args.content.now) c.args.self.now.around _ _ (there _ _ _ c.in-Some-Concluded.ensures.row c.in-Some-Concluded.field-0-is))
+
+pub returns-in-Some-Concluded-clause-less : goal.returns-in-Some-Concluded-clause-less
+returns-in-Some-Concluded-clause-less c = less_left c.args.terms.now c.args.row c.args.self.now.tasks.items
 
 pub returns-in-Some-Hidden-clause-same : goal.returns-in-Some-Hidden-clause-same
 returns-in-Some-Hidden-clause-same c =

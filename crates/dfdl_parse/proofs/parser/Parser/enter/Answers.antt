@@ -1,7 +1,7 @@
 use Rattle.std.proofs.Common.{◌-◌, ◌∙◌, refl, sym, ap, arith}
 use Rattle.dfdl_looks.specs.Tallies.{one_row}
 use Rattle.dfdl_parse.specs.Shown.{limits_of, state_of}
-use Rattle.dfdl_parse.proofs.Landings.{box-entered, leaf-entered, scope-entered, separated-entered, test-entered}
+use Rattle.dfdl_parse.proofs.Landings.{box-entered, concluded-entered, leaf-entered, scope-entered, separated-entered, statement-entered}
 use Rattle.std.proofs.Common.{List}
 use Rattle.dfdl_terms.specs.declared.row.Row.TheVariants.{Separated}
 use Rattle.dfdl_terms.specs.declared.slots.Slot.{Slot}
@@ -47,9 +47,16 @@ returns-in_ok-begin_separated-in-Separated-clause-moved g c =
 pub returns-in_ok-begin_separated-in-Separated-clause-most : goal.returns-in_ok-begin_separated-in-Separated-clause-most
 returns-in_ok-begin_separated-in-Separated-clause-most g c = (c.in_ok-begin_separated-in-Separated.ensures.becomes c.args.sight.now).limits
 
-pub returns-in_ok-waits-in-Test-clause-moved : goal.returns-in_ok-waits-in-Test-clause-moved
-returns-in_ok-waits-in-Test-clause-moved g c =
+pub returns-in_ok-waits-in-Statement-clause-moved : goal.returns-in_ok-waits-in-Statement-clause-moved
+returns-in_ok-waits-in-Statement-clause-moved g c =
     let old = c.args.self.now in
-    test-entered (limits_of old c.args.sight.now) c.args.terms.now c.args.sight.now c.args.id c.row.result.now old.stack (state_of old) old.far c.begin_test.new.self
-    c.row.ensures.row old.focus c.in-Test.test c.in_ok-waits-in-Test.waits c.begin_test.new.sight (c.begin_test.new.steps - c.args.steps.now)
-    c.in-Test.is c.requires.focus (c.in_ok-waits-in-Test.ensures.moved one_row (refl, refl))
+    statement-entered (limits_of old c.args.sight.now) c.args.terms.now c.args.sight.now c.args.id c.row.result.now old.stack (state_of old) old.far c.begin_statement.new.self
+    c.row.ensures.row old.focus c.in-Statement.statement c.in_ok-waits-in-Statement.waits c.begin_statement.new.sight (c.begin_statement.new.steps - c.args.steps.now)
+    c.in-Statement.is c.requires.focus (c.in_ok-waits-in-Statement.ensures.moved one_row (refl, refl))
+
+pub returns-in_ok-begin_concluded-in-Concluded-clause-moved : goal.returns-in_ok-begin_concluded-in-Concluded-clause-moved
+returns-in_ok-begin_concluded-in-Concluded-clause-moved g c =
+    let old = c.args.self.now in
+    concluded-entered (limits_of old c.args.sight.now) c.args.terms.now c.args.sight.now c.args.id c.row.result.now old.stack (state_of old) old.far c.begin_concluded.new.self
+    c.row.ensures.row c.in-Concluded.behind c.in-Concluded.body (c.args.steps.now - c.args.steps.now) c.in-Concluded.is (omega arith)
+    (c.in_ok-begin_concluded-in-Concluded.ensures.moved c.args.sight.now one_row (refl, refl))

@@ -14,10 +14,10 @@ begin-requires-clause-none c =
 
 pub returns-clause-sound : goal.returns-clause-sound
 returns-clause-sound c =
-    next_sound c.args.self.now _ c.requires.done c.requires.sound refl c.drop_before.ensures refl refl c.begin.ensures.focus c.begin.ensures.stack c.begin.ensures.front
-    c.begin.ensures.far c.begin.ensures.most c.begin.ensures.registered refl
+    next_sound c.args.self.now _ c.requires.done c.requires.sound refl c.drop_before.ensures refl refl c.in_default.ensures.focus c.in_default.ensures.stack c.in_default.ensures.front
+    c.in_default.ensures.far c.in_default.ensures.most c.in_default.ensures.registered refl
 
 pub returns-clause-stands : goal.returns-clause-stands
 returns-clause-stands c stream taken =
-    next_stands c.args.self.now _ c.requires.done c.requires.sound refl c.drop_before.ensures refl refl c.begin.ensures.focus c.begin.ensures.stack c.begin.ensures.front
-    c.begin.ensures.far stream taken
+    next_stands c.args.self.now _ c.requires.done c.requires.sound refl c.drop_before.ensures refl refl c.in_default.ensures.focus c.in_default.ensures.stack c.in_default.ensures.front
+    c.in_default.ensures.far stream taken

@@ -12,8 +12,9 @@ use Rattle.dfdl_pieces.proofs.unparsing.Unparser.lay.Goals as goal
 pub lay_simple-requires-clause-row : goal.lay_simple-requires-clause-row
 lay_simple-requires-clause-row c = (
   c.in-Some-Elem.field-0-2,
-  there _ _ _ c.in-Some-Elem.ensures.row (c.in-Some-Elem.field-0-is ∙ (ap (λ s. Elem c.in-Some-Elem.name s c.in-Some-Elem.field-0-2 c.in-Some-Elem.body) c.in-Some.is
-      ∙ ap (λ n. Elem n (Some c.in-Some.kind) c.in-Some-Elem.field-0-2 c.in-Some-Elem.body) (sym c.as_str.ensures))),
+  c.in-Some-Elem.field-0-3,
+  there _ _ _ c.in-Some-Elem.ensures.row (c.in-Some-Elem.field-0-is ∙ (ap (λ s. Elem c.in-Some-Elem.name s c.in-Some-Elem.field-0-2 c.in-Some-Elem.field-0-3 c.in-Some-Elem.body) c.in-Some.is
+      ∙ ap (λ n. Elem n (Some c.in-Some.kind) c.in-Some-Elem.field-0-2 c.in-Some-Elem.field-0-3 c.in-Some-Elem.body) (sym c.as_str.ensures))),
 )
 
 pub returns-in-Some-clause-moves : goal.returns-in-Some-clause-moves
@@ -24,9 +25,9 @@ returns-in-Some-clause-moves c =
     if_ok_both c.lay_simple.result _ _ _ c.lay_simple.ensures.moves c.lay_simple.ensures.names
     (λ missing moves names. moves_same t c.args.events.now old c.lay_simple.new.self
     (Takes (λ event. value_laying (c.as_str.result.now ∷ old.around) (form_at t c.in-Some-Elem.body) more (value_for c.args.row event))) (laying t c.args.row old.around more) missing
-    (laid_simple t c.args.row old.around more c.as_str.result.now c.in-Some.kind c.in-Some-Elem.field-0-2 c.in-Some-Elem.body
-    (there _ _ _ c.in-Some-Elem.ensures.row (c.in-Some-Elem.field-0-is ∙ (ap (λ s. Elem c.in-Some-Elem.name s c.in-Some-Elem.field-0-2 c.in-Some-Elem.body) c.in-Some.is
-    ∙ ap (λ n. Elem n (Some c.in-Some.kind) c.in-Some-Elem.field-0-2 c.in-Some-Elem.body) (sym c.as_str.ensures)))))
+    (laid_simple t c.args.row old.around more c.as_str.result.now c.in-Some.kind c.in-Some-Elem.field-0-2 c.in-Some-Elem.field-0-3 c.in-Some-Elem.body
+    (there _ _ _ c.in-Some-Elem.ensures.row (c.in-Some-Elem.field-0-is ∙ (ap (λ s. Elem c.in-Some-Elem.name s c.in-Some-Elem.field-0-2 c.in-Some-Elem.field-0-3 c.in-Some-Elem.body) c.in-Some.is
+    ∙ ap (λ n. Elem n (Some c.in-Some.kind) c.in-Some-Elem.field-0-2 c.in-Some-Elem.field-0-3 c.in-Some-Elem.body) (sym c.as_str.ensures)))))
     c.lay_simple.ensures.tasks names (moves more))
 
 pub returns-in-Some-clause-less : goal.returns-in-Some-clause-less
@@ -44,10 +45,10 @@ returns-in-None-simple-clause-moves c =
     (λ missing moves. moves_too c.args.events.now old new
     (Takes (λ event. begun_laying (c.as_str-in-None-simple.result.now ∷ old.around) (laying t c.in-Some-Elem.body (c.as_str-in-None-simple.result.now ∷ old.around) (Takes (λ end. more))) (begins c.args.row event)))
     (laying t c.args.row old.around more) (left t new.tasks.items new.around) missing
-    (laid_complex t c.args.row old.around more c.as_str-in-None-simple.result.now c.in-Some-Elem.field-0-2 c.in-Some-Elem.body
-    (there _ _ _ c.in-Some-Elem.ensures.row (c.in-Some-Elem.field-0-is ∙ (ap (λ s. Elem c.in-Some-Elem.name s c.in-Some-Elem.field-0-2 c.in-Some-Elem.body) c.in-None-simple.is
-    ∙ ap (λ n. Elem n None c.in-Some-Elem.field-0-2 c.in-Some-Elem.body) (sym c.as_str-in-None-simple.ensures))))
-    (below_elem _ _ _ _ _ _ c.in-Some-Elem.field-0-is c.in-Some-Elem.ensures.nests)) moves)
+    (laid_complex t c.args.row old.around more c.as_str-in-None-simple.result.now c.in-Some-Elem.field-0-2 c.in-Some-Elem.field-0-3 c.in-Some-Elem.body
+    (there _ _ _ c.in-Some-Elem.ensures.row (c.in-Some-Elem.field-0-is ∙ (ap (λ s. Elem c.in-Some-Elem.name s c.in-Some-Elem.field-0-2 c.in-Some-Elem.field-0-3 c.in-Some-Elem.body) c.in-None-simple.is
+    ∙ ap (λ n. Elem n None c.in-Some-Elem.field-0-2 c.in-Some-Elem.field-0-3 c.in-Some-Elem.body) (sym c.as_str-in-None-simple.ensures))))
+    (below_elem _ _ _ _ _ _ _ c.in-Some-Elem.field-0-is c.in-Some-Elem.ensures.nests)) moves)
 
 pub returns-in-None-simple-clause-less : goal.returns-in-None-simple-clause-less
 returns-in-None-simple-clause-less c =
@@ -55,9 +56,9 @@ returns-in-None-simple-clause-less c =
     let old = c.args.self.now in
     if_ok c.lay_complex.result _ _ c.lay_complex.ensures.less
     (λ missing less. less_too t (2 + steps_of t c.in-Some-Elem.body + steps_left t old.tasks.items) (steps_of t c.args.row + steps_left t old.tasks.items) c.lay_complex.new.self missing
-    (complex_less t c.args.row old.tasks.items c.lay_complex.new.self.tasks.items c.in-Some-Elem.name c.in-Some-Elem.field-0-2 c.in-Some-Elem.body
-    (there _ _ _ c.in-Some-Elem.ensures.row (c.in-Some-Elem.field-0-is ∙ ap (λ s. Elem c.in-Some-Elem.name s c.in-Some-Elem.field-0-2 c.in-Some-Elem.body) c.in-None-simple.is))
-    (below_elem _ _ _ _ _ _ c.in-Some-Elem.field-0-is c.in-Some-Elem.ensures.nests)) less)
+    (complex_less t c.args.row old.tasks.items c.lay_complex.new.self.tasks.items c.in-Some-Elem.name c.in-Some-Elem.field-0-2 c.in-Some-Elem.field-0-3 c.in-Some-Elem.body
+    (there _ _ _ c.in-Some-Elem.ensures.row (c.in-Some-Elem.field-0-is ∙ ap (λ s. Elem c.in-Some-Elem.name s c.in-Some-Elem.field-0-2 c.in-Some-Elem.field-0-3 c.in-Some-Elem.body) c.in-None-simple.is))
+    (below_elem _ _ _ _ _ _ _ c.in-Some-Elem.field-0-is c.in-Some-Elem.ensures.nests)) less)
 
 pub returns-in-Some-Group-clause-moves : goal.returns-in-Some-Group-clause-moves
 returns-in-Some-Group-clause-moves c =
@@ -193,15 +194,25 @@ returns-in-Some-Choice-clause-moves c =
 pub returns-in-Some-Choice-clause-less : goal.returns-in-Some-Choice-clause-less
 returns-in-Some-Choice-clause-less c = same_less c.args.terms.now c.args.row c.args.self.now.tasks.items c.args.self.now.tasks.items refl
 
-pub returns-in-Some-Test-clause-moves : goal.returns-in-Some-Test-clause-moves
-returns-in-Some-Test-clause-moves c =
+pub returns-in-Some-Statement-clause-moves : goal.returns-in-Some-Statement-clause-moves
+returns-in-Some-Statement-clause-moves c =
     let old = c.args.self.now in
     let t = c.args.terms.now in
     ap (outcome old c.args.events.now) (sym (laid_nothing t c.args.row old.around (left t old.tasks.items old.around) _
-    (there _ _ _ c.in-Some-Test.ensures.row c.in-Some-Test.field-0-is) refl))
+    (there _ _ _ c.in-Some-Statement.ensures.row c.in-Some-Statement.field-0-is) refl))
 
-pub returns-in-Some-Test-clause-less : goal.returns-in-Some-Test-clause-less
-returns-in-Some-Test-clause-less c = same_less c.args.terms.now c.args.row c.args.self.now.tasks.items c.args.self.now.tasks.items refl
+pub returns-in-Some-Statement-clause-less : goal.returns-in-Some-Statement-clause-less
+returns-in-Some-Statement-clause-less c = same_less c.args.terms.now c.args.row c.args.self.now.tasks.items c.args.self.now.tasks.items refl
+
+pub returns-in-Some-Concluded-clause-moves : goal.returns-in-Some-Concluded-clause-moves
+returns-in-Some-Concluded-clause-moves c =
+    let old = c.args.self.now in
+    let t = c.args.terms.now in
+    ap (outcome old c.args.events.now) (sym (laid_nothing t c.args.row old.around (left t old.tasks.items old.around) _
+    (there _ _ _ c.in-Some-Concluded.ensures.row c.in-Some-Concluded.field-0-is) refl))
+
+pub returns-in-Some-Concluded-clause-less : goal.returns-in-Some-Concluded-clause-less
+returns-in-Some-Concluded-clause-less c = same_less c.args.terms.now c.args.row c.args.self.now.tasks.items c.args.self.now.tasks.items refl
 
 pub returns-in-Some-Hidden-clause-moves : goal.returns-in-Some-Hidden-clause-moves
 returns-in-Some-Hidden-clause-moves c =

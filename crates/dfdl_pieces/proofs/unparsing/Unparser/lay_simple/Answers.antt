@@ -18,8 +18,8 @@ returns-in_default-clause-moves c =
 
 pub piece-requires-clause-typed : goal.piece-requires-clause-typed
 piece-requires-clause-typed c =
-    value_of_form c.args.terms.now c.args.row c.args.events.now c.args.self.now.at _ c.in-Some.value.now c.in-Some-form_at.form.now c.args.name.now c.args.kind c.requires.row.0 c.args.body
-    c.requires.row.1 c.requires.typed c.requires.whole c.next_event-event.ensures.one c.in-Some.ensures c.in-Some-form_at.ensures
+    value_of_form c.args.terms.now c.args.row c.args.events.now c.args.self.now.at _ c.in-Some.value.now c.in-Some-form_at.form.now c.args.name.now c.args.kind c.requires.row.0 c.requires.row.1 c.args.body
+    c.requires.row.2 c.requires.typed c.requires.whole c.next_event-event.ensures.one c.in-Some.ensures c.in-Some-form_at.ensures
 
 pub returns-clause-moves : goal.returns-clause-moves
 returns-clause-moves c = λ more.

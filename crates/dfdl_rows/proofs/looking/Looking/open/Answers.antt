@@ -88,6 +88,23 @@ pub returns-in_ok-found-in-SimpleElement-clause-less : goal.returns-in_ok-found-
 returns-in_ok-found-in-SimpleElement-clause-less c =
     rest_less c.args.components.now c.requires.ready.order c.requires.ready.are_known.is_order c.args.number (c.requires.ready.within 0 c.args.number (omega arith)) c.args.self.now.tasks.items
 
+pub returns-in_ok-found-in-CalculatedElement-clause-step : goal.returns-in_ok-found-in-CalculatedElement-clause-step
+returns-in_ok-found-in-CalculatedElement-clause-step c =
+    named_step c.args.components.now c.args.known.idle.now c.args.known.refusals.now c.args.number c.args.self.now.tasks.items c.requires.ready
+    (stand_of c.args.self.now.level c.args.self.now.outer.items) (contains (λ x y. slice_cmp nat_cmp x.now y.now) c.args.self.now.names) c.requires.kept
+    (contains (λ x y. slice_cmp nat_cmp x.now y.now) c.add_element-in-CalculatedElement.new.names) _ c.in-CalculatedElement.name c.as_str-in-CalculatedElement.result.now c.place-place-in-CalculatedElement.result
+    (get_or c.args.known.refusals.now c.args.number None) c.in_ok-found-in-CalculatedElement.found c.requires.unrefused
+    (sym c.in-CalculatedElement.is ∙ c.component.ensures.component) (λ p parts. refl) refl c.place-place-in-CalculatedElement.ensures refl c.as_str-in-CalculatedElement.ensures
+    c.args.self.now.level.own.items c.add_element-in-CalculatedElement.new.own.items refl
+    (c.in_ok-found-in-CalculatedElement.ensures (names_at (stand_of c.args.self.now.level c.args.self.now.outer.items)) c.requires.kept.names)
+
+pub returns-in_ok-found-in-CalculatedElement-clause-ready : goal.returns-in_ok-found-in-CalculatedElement-clause-ready
+returns-in_ok-found-in-CalculatedElement-clause-ready c = rest_ready _ _ _ _ _ c.requires.ready
+
+pub returns-in_ok-found-in-CalculatedElement-clause-less : goal.returns-in_ok-found-in-CalculatedElement-clause-less
+returns-in_ok-found-in-CalculatedElement-clause-less c =
+    rest_less c.args.components.now c.requires.ready.order c.requires.ready.are_known.is_order c.args.number (c.requires.ready.within 0 c.args.number (omega arith)) c.args.self.now.tasks.items
+
 pub returns-in_ok-visit_all-in-Hidden-clause-step : goal.returns-in_ok-visit_all-in-Hidden-clause-step
 returns-in_ok-visit_all-in-Hidden-clause-step c =
     sequence_step c.args.components.now c.args.known.idle.now c.args.known.refusals.now c.args.number c.args.self.now.tasks.items c.requires.ready

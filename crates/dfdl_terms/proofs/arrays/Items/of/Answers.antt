@@ -2,6 +2,7 @@ use Rattle.std.proofs.Common.{◌≡◌, sym, rules, ◌∙◌, ap, false, take_
 use Rattle.std.specs.List.{list_any}
 use Rattle.dfdl_terms.specs.Arrays.{is_item_of, is_marked}
 use Rattle.dfdl_terms.proofs.Marks.{none_marked, next_row}
+use Rattle.dfdl_terms.proofs.MarkLists.{is_marks, marks_items}
 use Rattle.dfdl_terms.proofs.arrays.Items.of.Goals as goal
 
 pub loop-row-init : goal.loop-row-init
@@ -19,6 +20,12 @@ loop-row-preserved c = record {
       (search rules) (sym (ap (slice_get c.args.terms.now.rows) c.new.ensures) ∙ c.row.ensures.row) (c.loop-row.invariant.marked e) (c.mark_repeated.ensures.marked e);
 }
 
-pub returns : goal.returns
-returns c = λ e. c.loop-row.invariant.marked e
-    ∙ ap (list_any (is_item_of c.args.terms.now.rows e)) (take_all c.loop-row.row c.args.terms.now.rows (search rules))
+pub returns-clause-items : goal.returns-clause-items
+returns-clause-items c = is_marks c.args.terms.now.rows c.loop-row.marks.items (sym c.loop-row.marks.ok.0 ∙ sym c.loop-row.invariant.many)
+    (λ e. c.loop-row.invariant.marked e ∙ ap (list_any (is_item_of c.args.terms.now.rows e)) (take_all c.loop-row.row c.args.terms.now.rows (search rules)))
+
+pub returns-in_err-marks-clause-marks : goal.returns-in_err-marks-clause-marks
+returns-in_err-marks-clause-marks c = marks_items c.args.terms.now.rows c.rows.ensures.table.nests
+
+pub returns-clause-marks : goal.returns-clause-marks
+returns-clause-marks c = marks_items c.args.terms.now.rows c.rows.ensures.table.nests

@@ -1,0 +1,9 @@
+use Rattle.std.proofs.Common.{◌≡◌, drop}
+use Rattle.std.specs.List.{list_any}
+use Rattle.dfdl_components.specs.Sites.{nodes_of}
+use Rattle.dfdl_chains.specs.Facts.{opens_at}
+use Rattle.dfdl_chains.proofs.facts.has_own_openings.Given as goal
+
+abbrev pub invariant-loop-child : goal.invariant-loop-child
+invariant-loop-child l = list_any (opens_at (nodes_of l.schema l.fn.site.document)) (drop l.child-index l.child-items)
+    ≡ list_any (opens_at (nodes_of l.schema l.fn.site.document)) l.child-items

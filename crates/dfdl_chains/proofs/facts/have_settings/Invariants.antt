@@ -1,7 +1,0 @@
-use Rattle.std.proofs.Common.{◌≡◌, drop}
-use Rattle.std.specs.List.{list_any}
-use Rattle.dfdl_chains.specs.Facts.{has_own_settings}
-use Rattle.dfdl_chains.proofs.facts.have_settings.Given as goal
-
-abbrev pub invariant-loop-site : goal.invariant-loop-site
-invariant-loop-site l = list_any (has_own_settings l.schema) (drop l.site-index l.chain) ≡ list_any (has_own_settings l.schema) l.chain

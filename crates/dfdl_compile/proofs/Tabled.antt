@@ -1,0 +1,239 @@
+-- What components name by numbers is there: primitives, lists of literals and statements.
+use Rattle.std.proofs.Common.{◌≡◌, ℕ, ◌+◌, ◌<◌, ◌≤◌, Bool, true, false, List, ◌++◌, length, length-append, get_or, All, Option, None, Some, option_map, ap, sym, subst, ◌∙◌, arith}
+use Rattle.std.proofs.lemmas.List.{length-map}
+use Rattle.std.proofs.lemmas.List.Sums.{sum_by_more_le}
+use Rattle.dfdl_documents.specs.Documents.{SchemaDocument}
+use Rattle.dfdl_components.specs.declared.site.Site.{Site}
+use Rattle.dfdl_components.specs.Sites.{IsSite}
+use Rattle.dfdl_components.specs.Recursion.{count_of, number_of}
+use Rattle.dfdl_checks.specs.declared.prefixes.PrefixForm.{PrefixForm}
+use Rattle.dfdl_checks.specs.declared.tried.OtherRepresentations.{OtherRepresentations}
+use Rattle.dfdl_checks.specs.declared.delimiters.Delimiting.{Delimiting}
+use Rattle.dfdl_checks.specs.declared.delimiters.Separating.{Separating}
+use Rattle.dfdl_checks.specs.declared.purpose.Purpose.{Purpose}
+use Rattle.dfdl_checks.specs.declared.purpose.Purpose.TheVariants.{Parsing, Unparsing}
+use Rattle.dfdl_checks.specs.declared.subject.Kind.{Kind}
+use Rattle.dfdl_checks.specs.declared.subject.Kind.TheVariants as kind
+use Rattle.dfdl_chains.specs.Everywhere.{all_sites, for_each}
+use Rattle.dfdl_chains.specs.Kinds.{kind_at}
+use Rattle.dfdl_chains.proofs.Numbering.{number_below, length_all}
+use Rattle.dfdl_breaches.specs.Judging.{judgement_at, no_judgement}
+use Rattle.dfdl_breaches.specs.declared.judgement.Judgement.{Judgement}
+use Rattle.dfdl_breaches.proofs.Numbering.{value-at}
+use Rattle.dfdl_terms.specs.declared.delimiters.Delimiters.{Delimiters}
+use Rattle.dfdl_terms.specs.declared.framing.Framing.{Framing}
+use Rattle.dfdl_terms.specs.Rows.{AreWithin, AreStatements, IsWithin}
+use Rattle.dfdl_terms.specs.declared.row.Primitive.{Primitive}
+use Rattle.dfdl_terms.specs.declared.row.Row.TheVariants.{Choice}
+use Rattle.dfdl_rows.specs.Components.{Schema, HasDelimiters, HasList, HasPrimitive, HasBoxPrimitive, HasPrefixPrimitive, HasSeparators, HasStatements}
+use Rattle.dfdl_rows.specs.declared.component.Separated.{Separated}
+use Rattle.dfdl_rows.specs.declared.component.Component.TheVariants.{Sequence, SimpleElement, CalculatedElement}
+use Rattle.dfdl_compile.specs.Components.{box_by, choice_by, component_at, components_of, delimiters_of, empty_number, framing_of, initiator_list_at, nil_number, number_if, prefix_by, prefix_number, primitives_of, separator_list_at, separator_number, terminator_list_at, terminator_number, tried_by}
+use Rattle.dfdl_compile.specs.Statements.{before_by, behind_by, count_by, counted, first_statement, is_set_first, judgements_of, noted_of, calculation_number, count_if}
+use Rattle.dfdl_compile.specs.Delimiters.{delimiter_by, separated_by}
+use Rattle.dfdl_compile.proofs.Fitting.{all_within, each, of_kind, by_component}
+use Rattle.dfdl_compile.proofs.Noted.{length_noted}
+use Rattle.dfdl_compile.proofs.Taken.{count_primitives, length_primitives, length_lists}
+
+module _ (purpose : Purpose) (refused : Site → Bool) (documents : List SchemaDocument) where
+  abbrev count : ℕ
+  count = count_primitives documents
+
+  has_number : (own : Site) → IsSite documents own → HasPrimitive count (component_at purpose refused documents own)
+  has_number own within =
+      by_component purpose refused documents own (HasPrimitive count) tt (λ text told. tt) (by_kind (kind_at documents own))
+    where
+      own_below : number_of documents own < count
+      own_below = let below = number_below documents own within in omega (arith, below)
+
+      prefix_below : prefix_number documents own < count
+      prefix_below = let below = number_below documents own within in omega (arith, below)
+
+      nil_below : nil_number documents own < count
+      nil_below = let below = number_below documents own within in omega (arith, below)
+
+      empty_below : empty_number documents own < count
+      empty_below = let below = number_below documents own within in omega (arith, below)
+
+      by_number : (number : ℕ) → number < count → (o : Option Primitive) → IsWithin count (number_if number o)
+      by_number number below None = tt
+      by_number number below (Some p) = below
+
+      by_others : (others : OtherRepresentations) → AreWithin count (tried_by (nil_number documents own) (empty_number documents own) others)
+      by_others others = (by_number (nil_number documents own) nil_below others.nil, by_number (empty_number documents own) empty_below others.empty)
+
+      by_prefix : (o : Option PrefixForm) → HasPrefixPrimitive count (option_map (prefix_by (prefix_number documents own)) o)
+      by_prefix None = tt
+      by_prefix (Some form) = prefix_below
+
+      by_box : (size : Option ℕ) (o : Option PrefixForm) → HasBoxPrimitive count (box_by size (option_map (prefix_by (prefix_number documents own)) o))
+      by_box (Some bits) o = tt
+      by_box None None = tt
+      by_box None (Some form) = prefix_below
+
+      by_choice : (q : Purpose) (framing : Framing) (own : Option Separated) (initiated : Bool) → HasPrimitive count (choice_by q framing own initiated)
+      by_choice Parsing framing own initiated = tt
+      by_choice Unparsing framing own initiated = tt
+
+      by_kind : (k : Kind) → HasPrimitive count (of_kind purpose refused documents own k)
+      by_kind kind.ComplexElement = by_box (judgement_at purpose refused documents own).size (judgement_at purpose refused documents own).prefix
+      by_kind (kind.SimpleElement simple) = (own_below, by_prefix (judgement_at purpose refused documents own).prefix, by_others (judgement_at purpose refused documents own).others)
+      by_kind kind.UncarriedElement = (own_below, by_prefix (judgement_at purpose refused documents own).prefix, by_others (judgement_at purpose refused documents own).others)
+      by_kind (kind.CalculatedElement simple) = (own_below, by_prefix (judgement_at purpose refused documents own).prefix, by_others (judgement_at purpose refused documents own).others)
+      by_kind kind.Sequence = tt
+      by_kind kind.HiddenSequence = tt
+      by_kind kind.Choice = by_choice purpose (framing_of documents (first_statement purpose refused documents own) own (judgement_at purpose refused documents own))
+          (option_map (separated_by (separator_number documents own)) (judgement_at purpose refused documents own).markup.separator)
+          (judgement_at purpose refused documents own).initiates
+      by_kind (kind.PrefixNumber simple) = tt
+
+  -- the primitives of each component are in the table
+  pub have : (schema : Schema) (tables : List Primitive) → schema ≡ components_of purpose refused documents
+      → tables ≡ primitives_of purpose refused documents → All (HasPrimitive (length tables)) schema.components
+  unfolding components_of
+  have schema tables schema_is tables_are =
+      subst (λ (n : ℕ). All (HasPrimitive n) schema.components)
+      (sym (ap (λ (ps : List Primitive). length ps) tables_are ∙ length_primitives purpose refused documents))
+      (subst (λ (s : Schema). All (HasPrimitive count) s.components) (sym schema_is)
+      (each (IsSite documents) (HasPrimitive count) (component_at purpose refused documents) has_number (all_sites documents) (all_within documents)))
+
+  -- the lists of its delimiters are some of three for each element
+  abbrev count_lists : ℕ
+  count_lists = count_of documents + (count_of documents + count_of documents)
+
+  has_lists : (own : Site) → IsSite documents own → HasDelimiters count_lists (component_at purpose refused documents own)
+  has_lists own within =
+      by_component purpose refused documents own (HasDelimiters count_lists) (tt, tt, tt) (λ text told. (initiated, terminated, tt))
+      (by_kind (kind_at documents own))
+    where
+      by_list : (number : ℕ) → number < count_lists → (o : Option Delimiting) → HasList count_lists (option_map (delimiter_by number) o)
+      by_list number below None = tt
+      by_list number below (Some delimiter) = below
+
+      by_separator : (number : ℕ) → number < count_lists → (o : Option Separating) → HasSeparators count_lists (option_map (separated_by number) o)
+      by_separator number below None = tt
+      by_separator number below (Some separator) = below
+
+      initiated : HasList count_lists (framing_of documents (first_statement purpose refused documents own) own (judgement_at purpose refused documents own)).initiator
+      initiated =
+          let below = number_below documents own within in
+          by_list (number_of documents own) (omega (arith, below)) (judgement_at purpose refused documents own).markup.initiator
+
+      terminated : HasList count_lists (framing_of documents (first_statement purpose refused documents own) own (judgement_at purpose refused documents own)).terminator
+      terminated =
+          let below = number_below documents own within in
+          by_list (terminator_number documents own) (omega (arith, below)) (judgement_at purpose refused documents own).markup.terminator
+
+      separated : HasSeparators count_lists (option_map (separated_by (separator_number documents own)) (judgement_at purpose refused documents own).markup.separator)
+      separated =
+          let below = number_below documents own within in
+          by_separator (separator_number documents own) (omega (arith, below)) (judgement_at purpose refused documents own).markup.separator
+
+      by_choice : (q : Purpose) → HasDelimiters count_lists (choice_by q (framing_of documents (first_statement purpose refused documents own) own (judgement_at purpose refused documents own))
+          (option_map (separated_by (separator_number documents own)) (judgement_at purpose refused documents own).markup.separator)
+          (judgement_at purpose refused documents own).initiates)
+      by_choice Parsing = (initiated, terminated, tt)
+      by_choice Unparsing = (initiated, terminated, separated)
+
+      by_kind : (k : Kind) → HasDelimiters count_lists (of_kind purpose refused documents own k)
+      by_kind kind.ComplexElement = (initiated, terminated, tt)
+      by_kind (kind.SimpleElement simple) = (initiated, terminated, tt)
+      by_kind kind.UncarriedElement = (initiated, terminated, tt)
+      by_kind (kind.CalculatedElement simple) = (initiated, terminated, tt)
+      by_kind kind.Sequence = (initiated, terminated, separated)
+      by_kind kind.HiddenSequence = (initiated, terminated, separated)
+      by_kind kind.Choice = by_choice purpose
+      by_kind (kind.PrefixNumber simple) = (initiated, terminated, separated)
+
+  -- there are three lists of delimiters for each element
+  length_delimiters : length (delimiters_of purpose refused documents) ≡ count_lists
+  unfolding delimiters_of
+  length_delimiters =
+      let initiators = length_lists documents (initiator_list_at purpose refused documents) in
+      let terminators = length_lists documents (terminator_list_at purpose refused documents) in
+      let separators = length_lists documents (separator_list_at purpose refused documents) in
+      let behind = length-append (for_each documents (terminator_list_at purpose refused documents)) (for_each documents (separator_list_at purpose refused documents)) in
+      let all = length-append (for_each documents (initiator_list_at purpose refused documents))
+      (for_each documents (terminator_list_at purpose refused documents) ++ for_each documents (separator_list_at purpose refused documents)) in
+      omega (arith, all, behind, initiators, terminators, separators)
+
+  -- the lists of each component are in the table
+  pub have_lists : (schema : Schema) (lists : List Delimiters) → schema ≡ components_of purpose refused documents
+      → lists ≡ delimiters_of purpose refused documents → All (HasDelimiters (length lists)) schema.components
+  unfolding components_of
+  have_lists schema lists schema_is lists_are =
+      subst (λ (n : ℕ). All (HasDelimiters n) schema.components)
+      (sym (ap (λ (ds : List Delimiters). length ds) lists_are ∙ length_delimiters))
+      (subst (λ (s : Schema). All (HasDelimiters count_lists) s.components) (sym schema_is)
+      (each (IsSite documents) (HasDelimiters count_lists) (component_at purpose refused documents) has_lists
+      (all_sites documents) (all_within documents)))
+
+  -- the statements of an element are some of all
+  pub counted_within : (own : Site) → IsSite documents own
+      → first_statement purpose refused documents own + count_by (judgement_at purpose refused documents own) ≤ counted (judgements_of purpose refused documents)
+  counted_within own within =
+      let below : number_of documents own < length (judgements_of purpose refused documents)
+      = let low = number_below documents own within in
+      omega (arith, low, length-map (all_sites documents) (judgement_at purpose refused documents), length_all documents) in
+      let fit = sum_by_more_le count_by (judgements_of purpose refused documents) (number_of documents own) no_judgement below in
+      let same : get_or (judgements_of purpose refused documents) (number_of documents own) no_judgement ≡ judgement_at purpose refused documents own
+      = value-at documents (judgement_at purpose refused documents) own no_judgement within in
+      subst (λ (j : Judgement). first_statement purpose refused documents own + count_by j ≤ counted (judgements_of purpose refused documents)) same fit
+
+  -- how many there are
+  abbrev count_statements : ℕ
+  count_statements = counted (judgements_of purpose refused documents)
+
+  before_within : (first : ℕ) (is_first : Bool) (told : Judgement) → first + count_by told ≤ count_statements
+      → AreStatements count_statements (before_by is_first first told)
+  before_within first true told fit = omega (arith, fit)
+  before_within first false told fit = omega (arith, fit)
+
+  behind_within : (first : ℕ) (is_first : Bool) (told : Judgement) → first + count_by told ≤ count_statements
+      → AreStatements count_statements (behind_by is_first first told)
+  behind_within first true told fit = omega (arith, fit)
+  behind_within first false told fit = omega (arith, fit)
+
+  has_statements : (own : Site) → IsSite documents own → HasStatements count_statements (component_at purpose refused documents own)
+  has_statements own within =
+      by_component purpose refused documents own (HasStatements count_statements) (omega arith, omega arith, tt)
+      (λ text told. (before, behind, calculation text told)) (by_kind (kind_at documents own))
+    where
+      before : AreStatements count_statements (framing_of documents (first_statement purpose refused documents own) own (judgement_at purpose refused documents own)).before
+      before = before_within (first_statement purpose refused documents own) (is_set_first (kind_at documents own)) (judgement_at purpose refused documents own) (counted_within own within)
+
+      behind : AreStatements count_statements (framing_of documents (first_statement purpose refused documents own) own (judgement_at purpose refused documents own)).behind
+      behind = behind_within (first_statement purpose refused documents own) (is_set_first (kind_at documents own)) (judgement_at purpose refused documents own) (counted_within own within)
+
+      calculation : (text : List ℕ) → (judgement_at purpose refused documents own).calculation ≡ Some text
+          → calculation_number (first_statement purpose refused documents own) (judgement_at purpose refused documents own) < count_statements
+      calculation text told =
+          let one : count_if (judgement_at purpose refused documents own).calculation ≡ 1 = ap count_if told in
+          omega (arith, one, counted_within own within)
+
+      by_choice : (q : Purpose) → HasStatements count_statements
+          (choice_by q (framing_of documents (first_statement purpose refused documents own) own (judgement_at purpose refused documents own))
+          (option_map (separated_by (separator_number documents own)) (judgement_at purpose refused documents own).markup.separator)
+          (judgement_at purpose refused documents own).initiates)
+      by_choice Parsing = (before, behind, tt)
+      by_choice Unparsing = (before, behind, tt)
+
+      by_kind : (k : Kind) → HasStatements count_statements (of_kind purpose refused documents own k)
+      by_kind kind.ComplexElement = (before, behind, tt)
+      by_kind (kind.SimpleElement simple) = (before, behind, tt)
+      by_kind kind.UncarriedElement = (before, behind, tt)
+      by_kind (kind.CalculatedElement simple) = (before, behind, tt)
+      by_kind kind.Sequence = (before, behind, tt)
+      by_kind kind.HiddenSequence = (before, behind, tt)
+      by_kind kind.Choice = by_choice purpose
+      by_kind (kind.PrefixNumber simple) = (before, behind, tt)
+
+  -- the statements of each component are some of those that are noted
+  pub have_statements : (schema : Schema) (count : ℕ) → schema ≡ components_of purpose refused documents
+      → count ≡ length (noted_of purpose refused documents) → All (HasStatements count) schema.components
+  unfolding components_of
+  have_statements schema count schema_is count_is =
+      subst (λ (n : ℕ). All (HasStatements n) schema.components) (sym (count_is ∙ length_noted purpose refused documents))
+      (subst (λ (s : Schema). All (HasStatements count_statements) s.components) (sym schema_is)
+      (each (IsSite documents) (HasStatements count_statements) (component_at purpose refused documents) has_statements
+      (all_sites documents) (all_within documents)))

@@ -1,0 +1,144 @@
+// The numbers of the statements of the components of a schema.
+ghost use Rattle.std.specs.Prelude.{◌≡◌, ◌+◌, length, IfOk};
+ghost use Rattle.dfdl_compile.specs.Statements as spec;
+
+use dfdl_breaches::Judgement;
+use dfdl_checks::Kind;
+use dfdl_terms::Statements;
+use dfdl_value::TextValue;
+use std::alloc::AllocError;
+
+// A count. There is no memory for 2^32 statements.
+fn number(count: usize) -> Result<u32, AllocError>
+    ensures { IfOk result (λ number. number ≡ count) }
+{
+    match u32::try_from(count) {
+        Ok(number) => Ok(number),
+        Err(_) => Err(AllocError),
+    }
+}
+
+// A sum of counts.
+fn sum(first: u32, second: u32) -> Result<u32, AllocError>
+    ensures { IfOk result (λ sum. sum ≡ first + second) }
+{
+    match first.checked_add(second) {
+        Some(sum) => Ok(sum),
+        None => Err(AllocError),
+    }
+}
+
+// How many tests of patterns there are, and how many settings and tests of expressions.
+#[derive(Clone, Copy)]
+struct Counts {
+    tests: u32,
+    settings: u32,
+    checks: u32,
+}
+
+// Those of an element of which this is told.
+fn counted(judgement: &Judgement) -> Result<Counts, AllocError>
+    ensures tests { IfOk result (λ counts. counts.tests ≡ length judgement.now.tests) }
+    ensures settings { IfOk result (λ counts. counts.settings ≡ length judgement.now.settings) }
+    ensures checks { IfOk result (λ counts. counts.checks ≡ length judgement.now.checks) }
+{
+    let tests = number(judgement.tests.as_slice().len())?;
+    let settings = number(judgement.settings.as_slice().len())?;
+    let checks = number(judgement.checks.as_slice().len())?;
+    Ok(Counts {
+        tests,
+        settings,
+        checks,
+    })
+}
+
+/// Whether a component of a kind sets variables before all else.
+pub(crate) fn is_set_first(kind: Kind) -> bool
+    ensures { result ≡ spec.is_set_first kind }
+{
+    match kind {
+        Kind::ComplexElement
+        | Kind::SimpleElement(_)
+        | Kind::UncarriedElement
+        | Kind::CalculatedElement(_) => false,
+        Kind::Sequence | Kind::HiddenSequence | Kind::Choice | Kind::PrefixNumber(_) => true,
+    }
+}
+
+// So many settings, if they stand before all else.
+fn if_first(is_first: bool, count: u32) -> u32
+    ensures { result ≡ spec.if_first is_first count }
+{
+    if is_first { count } else { 0 }
+}
+
+// So many settings, if they stand behind all.
+fn if_last(is_first: bool, count: u32) -> u32
+    ensures { result ≡ spec.if_last is_first count }
+{
+    if is_first { 0 } else { count }
+}
+
+/// The statements before a component of which this is told, where its first one has this number.
+pub(crate) fn before_by(
+    is_first: bool,
+    first: u32,
+    judgement: &Judgement,
+) -> Result<Statements, AllocError>
+    ensures { IfOk result (λ before. before ≡ spec.before_by is_first first judgement.now) }
+{
+    let counts = counted(judgement)?;
+    let count = sum(counts.tests, if_first(is_first, counts.settings))?;
+    Ok(Statements { first, count })
+}
+
+/// Those behind it.
+pub(crate) fn behind_by(
+    is_first: bool,
+    first: u32,
+    judgement: &Judgement,
+) -> Result<Statements, AllocError>
+    ensures { IfOk result (λ behind. behind ≡ spec.behind_by is_first first judgement.now) }
+{
+    let counts = counted(judgement)?;
+    let before = sum(counts.tests, if_first(is_first, counts.settings))?;
+    let first = sum(first, before)?;
+    let count = sum(if_last(is_first, counts.settings), counts.checks)?;
+    Ok(Statements { first, count })
+}
+
+// How many statements before the calculation of its value an element has of which this is told.
+fn count_others(judgement: &Judgement) -> Result<u32, AllocError>
+    ensures { IfOk result (λ count. count ≡ spec.count_others judgement.now) }
+{
+    let counts = counted(judgement)?;
+    let others = sum(counts.settings, counts.checks)?;
+    sum(counts.tests, others)
+}
+
+// How many calculations of its value an element has.
+fn count_if(calculation: &Option<TextValue>) -> u32
+    ensures { result ≡ spec.count_if calculation.now }
+{
+    match calculation {
+        Some(_) => 1,
+        None => 0,
+    }
+}
+
+/// The number of the calculation of the value of an element of which this is told, where its first statement has this number.
+pub(crate) fn calculation_number(first: u32, judgement: &Judgement) -> Result<u32, AllocError>
+    ensures { IfOk result (λ number. number ≡ spec.calculation_number first judgement.now) }
+{
+    let others = count_others(judgement)?;
+    sum(first, others)
+}
+
+/// The number of the first statement behind those of an element of which this is told, where its first has this number.
+pub(crate) fn first_behind(first: u32, judgement: &Judgement) -> Result<u32, AllocError>
+    ensures { IfOk result (λ behind. behind ≡ first + spec.count_by judgement.now) }
+{
+    let others = count_others(judgement)?;
+    let all = sum(others, count_if(&judgement.calculation))?;
+    sum(first, all)
+}

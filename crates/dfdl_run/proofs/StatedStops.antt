@@ -1,0 +1,126 @@
+-- Statements stop by a limit on data, or a variable that can't be set, alone.
+use Rattle.std.proofs.Common.{ℕ, zero, suc, ◌+◌, nat_eq, nat_le, nat_lt, true, false, Bool, if◌then◌else◌, List, ◌++◌, length, Option, None, Some, Result, Ok, Err, slice_get}
+use Rattle.dfdl_report.specs.declared.cause.LimitCause.TheVariants.{Text}
+use Rattle.dfdl_report.specs.declared.cause.ParseCause.TheVariants.{ExpressionFault}
+use Rattle.dfdl_looks.specs.Asks.{Reached, Told, TooFar, Missing}
+use Rattle.dfdl_value.specs.declared.value.Value.{Value}
+use Rattle.dfdl_vars.specs.declared.instances.VarFault.{VarFault}
+use Rattle.dfdl_paths.specs.declared.place.Start.{Start}
+use Rattle.dfdl_region.specs.declared.node.Content.{Content}
+use Rattle.dfdl_region.specs.declared.node.Content.TheVariants as content
+use Rattle.dfdl_region.specs.Nodes.{with_content}
+use Rattle.dfdl_surroundings.specs.Taking.{taken, truth_taken}
+use Rattle.dfdl_terms.specs.Rows.{Table}
+use Rattle.dfdl_terms.specs.declared.statement.Statement.{Statement}
+use Rattle.dfdl_terms.specs.declared.statement.Statement.TheVariants.{Pattern, Expression, Setting, Calculation}
+use Rattle.dfdl_terms.specs.declared.statement.Statements.{Statements}
+use Rattle.dfdl_grammar.specs.declared.end.End.{End}
+use Rattle.dfdl_grammar.specs.declared.end.End.TheVariants.{Done, Failed, Stopped}
+use Rattle.dfdl_grammar.specs.declared.end.Halt.TheVariants.{Limit}
+use Rattle.dfdl_grammar.specs.declared.limits.Limits.{Limits}
+use Rattle.dfdl_grammar.specs.States.{Input, State}
+use Rattle.dfdl_grammar.specs.Outcomes.{Outcome, ended, follow}
+use Rattle.dfdl_grammar.specs.Leaves.{Find, Fails, Finds, FindsOctets, FindsText, default_find, land}
+use Rattle.dfdl_grammar.specs.Statements.{calculated, concluded, concluded_at, evaluated, is_written, judged, set_by, set_to, start_of, stated, stated_from, statement, statement_of, with_reads}
+use Rattle.dfdl_run.proofs.SoughtStops.{test-stops, tested-stops}
+use Rattle.dfdl_run.proofs.Stopping.{StopsByData}
+
+hold-stops : (most : ℕ) (made : ℕ → ℕ → Content) (bytes : List ℕ) (end : ℕ) (s : State) (room : Bool)
+    → StopsByData (let whole : Outcome = (if room then ended Done (record s {
+      at = end;
+      text = s.text ++ bytes;
+      nodes = with_content s.nodes s.inside (made (length s.text) (length bytes));
+    }) else ended (Stopped (Limit Text) most) s) in whole.end)
+hold-stops most made bytes end s true = tt
+hold-stops most made bytes end s false = tt
+
+pub land-stops : (limits : Limits) (first : ℕ) (reached : Reached Find) (s : State) → StopsByData (land limits first reached s).end
+land-stops limits first (Told (Fails cause)) s = tt
+land-stops limits first (Told (Finds content end)) s = tt
+land-stops limits first (Told (FindsOctets bytes end)) s =
+    hold-stops limits.text content.Octets bytes end s (nat_le (length s.text + length bytes) limits.text)
+land-stops limits first (Told (FindsText bytes end)) s =
+    hold-stops limits.text content.Text bytes end s (nat_le (length s.text + length bytes) limits.text)
+land-stops limits first TooFar s = tt
+land-stops limits first Missing s = tt
+
+pub follow-stops : (end : End) (o : Outcome) (next : State → Outcome) → StopsByData o.end
+    → ((s : State) → StopsByData (next s).end) → StopsByData (follow end o next).end
+follow-stops Done o next own after = after o.state
+follow-stops (Failed cause bit) o next own after = own
+follow-stops (Stopped cause quantity) o next own after = own
+
+judged-stops : (discriminates : Bool) (number : ℕ) (r : Result Bool ℕ) (s : State) → StopsByData (judged discriminates number r s).end
+judged-stops discriminates number (Ok holds) s = tested-stops discriminates number holds s
+judged-stops discriminates number (Err cause) s = tt
+
+set-stops : (reason : Option VarFault) (number : ℕ) (v : Value) (s : State) → StopsByData (set_by reason number v s).end
+set-stops None number v s = tt
+set-stops (Some reason) number v s = tt
+
+there-stops : (number : ℕ) (v : Value) (reason : Option VarFault) (s : State) (there : Bool)
+    → StopsByData (let whole : Outcome = (if there then set_by reason number v s else ended Done s) in whole.end)
+there-stops number v reason s true = set-stops reason number v s
+there-stops number v reason s false = tt
+
+set-to-stops : (number : ℕ) (r : Result Value ℕ) (s : State) → StopsByData (set_to number r s).end
+set-to-stops number (Ok v) s = there-stops number v _ s (nat_lt number s.variables.globals)
+set-to-stops number (Err cause) s = tt
+
+written-stops : (limits : Limits) (v : Value) (s : State) (written : Bool)
+    → StopsByData (let whole : Outcome = (if written then land limits s.at (Told (default_find s.at v)) s
+    else ended (Failed (ExpressionFault 6) s.at) s) in whole.end)
+written-stops limits v s true = land-stops limits s.at (Told (default_find s.at v)) s
+written-stops limits v s false = tt
+
+calculated-stops : (limits : Limits) (r : Result Value ℕ) (s : State) → StopsByData (calculated limits r s).end
+calculated-stops limits (Ok v) s = written-stops limits v s (is_written v)
+calculated-stops limits (Err cause) s = tt
+
+stated-stops : (limits : Limits) (table : Table) (start : Start) (number : ℕ) (found : Option Statement) (s : State)
+    → StopsByData (stated limits table start number found s).end
+stated-stops limits table start number None s = tt
+stated-stops limits table start number (Some (Pattern test)) s = tt
+stated-stops limits table start number (Some (Expression test)) s =
+    judged-stops test.discriminates number (truth_taken (evaluated table start test.expression s)) (with_reads table start test.expression s)
+stated-stops limits table start number (Some (Setting setting)) s =
+    set-to-stops setting.variable (taken setting.kind (evaluated table start setting.expression s)) (with_reads table start setting.expression s)
+stated-stops limits table start number (Some (Calculation calculation)) s =
+    calculated-stops limits (taken calculation.kind (evaluated table start calculation.expression s)) (with_reads table start calculation.expression s)
+
+of-stops : (input : Input) (table : Table) (number : ℕ) (found : Option Statement) (s : State) → StopsByData (statement_of input table number found s).end
+of-stops input table number None s = tt
+of-stops input table number (Some (Pattern test)) s = test-stops input number test s
+of-stops input table number (Some (Expression test)) s =
+    stated-stops input.limits table (start_of (Some (Expression test)) s) number (Some (Expression test)) s
+of-stops input table number (Some (Setting setting)) s =
+    stated-stops input.limits table (start_of (Some (Setting setting)) s) number (Some (Setting setting)) s
+of-stops input table number (Some (Calculation calculation)) s =
+    stated-stops input.limits table (start_of (Some (Calculation calculation)) s) number (Some (Calculation calculation)) s
+
+pub statement-stops : (input : Input) (table : Table) (number : ℕ) (s : State) → StopsByData (statement input table number s).end
+statement-stops input table number s = of-stops input table number (slice_get table.statements number) s
+
+all-stop : (limits : Limits) (table : Table) (start : Start) (first count : ℕ) (s : State) → StopsByData (stated_from limits table start first count s).end
+unfolding stated_from
+all-stop limits table start first zero s = tt
+all-stop limits table start first (suc count) s =
+    let o : Outcome = stated limits table start first (slice_get table.statements first) s in
+    follow-stops o.end o (stated_from limits table start (first + 1) count) (stated-stops limits table start first (slice_get table.statements first) s)
+    (all-stop limits table start (first + 1) count)
+
+at-end-stops : (end : End) (limits : Limits) (table : Table) (start : Start) (behind : Statements) (o : Outcome) → StopsByData o.end
+    → StopsByData (concluded_at end limits table start behind o).end
+at-end-stops Done limits table start behind o own = all-stop limits table start behind.first behind.count o.state
+at-end-stops (Failed cause bit) limits table start behind o own = own
+at-end-stops (Stopped cause quantity) limits table start behind o own = own
+
+some-stop : (limits : Limits) (table : Table) (start : Start) (behind : Statements) (o : Outcome) → StopsByData o.end → (none : Bool)
+    → StopsByData (let whole : Outcome = (if none then o else concluded_at o.end limits table start behind o) in whole.end)
+some-stop limits table start behind o own true = own
+some-stop limits table start behind o own false = at-end-stops o.end limits table start behind o own
+
+-- a component with statements behind it
+pub concluded-stops : (limits : Limits) (table : Table) (start : Start) (behind : Statements) (o : Outcome) → StopsByData o.end
+    → StopsByData (concluded limits table start behind o).end
+concluded-stops limits table start behind o own = some-stop limits table start behind o own (nat_eq behind.count 0)

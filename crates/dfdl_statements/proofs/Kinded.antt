@@ -1,0 +1,125 @@
+-- What is made of the text of a statement, by its kind.
+use Rattle.std.proofs.Common.{◌≡◌, ℕ, List, Bool, true, false, if◌then◌else◌, Option, Some, Result, Ok, Err, IfOk, refl, sym, ap, subst, ◌∙◌}
+use Rattle.dfdl_forms.specs.declared.simple.Simple.{Simple}
+use Rattle.dfdl_value.specs.ReadValues.{reading_of}
+use Rattle.dfdl_expressions.specs.declared.node.Node.{Node}
+use Rattle.dfdl_expression_tree.specs.Trees.{Formula}
+use Rattle.dfdl_expression_types.specs.declared.statics.Statics.{Statics}
+use Rattle.dfdl_expression_types.specs.declared.types.Types.{Types}
+use Rattle.dfdl_expression_types.specs.declared.types.ValueType.{ValueType}
+use Rattle.dfdl_expression_types.specs.TypeSets.{only, type_of}
+use Rattle.dfdl_scope.specs.Expressions.{is_expression, literal}
+use Rattle.dfdl_statements.specs.declared.fault.Fault.{Fault}
+use Rattle.dfdl_report.specs.declared.cause.SchemaCause.{SchemaCause}
+use Rattle.dfdl_statements.specs.declared.written.Target.{Target}
+use Rattle.dfdl_expression_types.specs.declared.types.ValueType.TheVariants as one
+use Rattle.dfdl_terms.specs.declared.statement.Statement.{Statement}
+use Rattle.dfdl_statements.specs.declared.written.Source.{Source}
+use Rattle.dfdl_statements.specs.declared.written.Source.TheVariants as written
+use Rattle.dfdl_statements.specs.Making.{Nodes, as_calculation, as_setting, as_test, constant, expression, made, setting, setting_made}
+use Rattle.dfdl_statements.specs.MakingShown.{Gives, cause_in}
+
+module _ (read : List ℕ → Option Formula) (s : Statics) (wanted : Types) (text : List ℕ) (answer : Result (List Node) Fault) where
+  -- what gives an expression of one type
+  pub of_type : (v : ValueType) → wanted ≡ only v → Gives (expression read s wanted text) answer → Gives (expression read s (only v) text) answer
+  of_type v is given = subst (λ w. Gives (expression read s w text) answer) is given
+
+  pub of_kind : (v : ValueType) (kind : Simple) → wanted ≡ only v → v ≡ type_of kind → Gives (expression read s wanted text) answer
+      → Gives (expression read s (only (type_of kind)) text) answer
+  of_kind v kind is of given = subst (λ w. Gives (expression read s w text) answer) (is ∙ ap only of) given
+
+  -- a variable that is set by an expression
+  pub set_by : (v : ValueType) (kind : Simple) (b : Bool) → b ≡ is_expression text → b ≡ true → wanted ≡ only v → v ≡ type_of kind
+      → Gives (expression read s wanted text) answer → Gives (setting read s kind text) answer
+  set_by v kind b same so is of given =
+      subst (λ t. Gives (if t then expression read s (only (type_of kind)) text else constant (reading_of kind (literal text))) answer) (sym so ∙ same)
+      (of_kind v kind is of given)
+
+-- a variable that is set by a constant
+pub set_to : (read : List ℕ → Option Formula) (s : Statics) (text inner : List ℕ) (answer : Result (List Node) Fault) (kind : Simple) (b : Bool)
+    → b ≡ is_expression text → b ≡ false → inner ≡ literal text → Gives (constant (reading_of kind inner)) answer → Gives (setting read s kind text) answer
+set_to read s text inner answer kind b same so is given =
+    subst (λ t. Gives (if t then expression read s (only (type_of kind)) text else constant (reading_of kind (literal text))) answer) (sym so ∙ same)
+    (subst (λ t. Gives (constant (reading_of kind t)) answer) is given)
+
+-- why nothing is made, where that is the same as something else
+pub caused : {E : Type 0} (r : Result (Option SchemaCause) E) (a b : Option SchemaCause) → IfOk r (λ cause. cause ≡ a) → a ≡ b → IfOk r (λ cause. cause ≡ b)
+caused r a b given same = subst (λ o. IfOk r (λ cause. cause ≡ o)) same given
+
+pub test_cause : (discriminates : Bool) (message : Option (List ℕ)) (due : Nodes) → cause_in due ≡ cause_in (as_test discriminates message due)
+test_cause discriminates message (Ok nodes) = refl
+test_cause discriminates message (Err cause) = refl
+
+pub setting_cause : (target : Target) (due : Nodes) → cause_in due ≡ cause_in (as_setting target due)
+setting_cause target (Ok nodes) = refl
+setting_cause target (Err cause) = refl
+
+pub calculation_cause : (kind : Simple) (due : Nodes) → cause_in due ≡ cause_in (as_calculation kind due)
+calculation_cause kind (Ok nodes) = refl
+calculation_cause kind (Err cause) = refl
+
+module _ (read : List ℕ → Option Formula) (s : Statics) (answer : Result Statement Fault) (source : Source) where
+  -- what is made of each kind
+  pub test_made : (text seen : List ℕ) (discriminates : Bool) (message : Option (List ℕ)) (wanted : Types) (found : Result (List Node) Fault)
+      → source ≡ written.Test text discriminates message → seen ≡ text → wanted ≡ only one.Truth → Gives (expression read s wanted seen) found
+      → ((due : Nodes) → Gives due found → Gives (as_test discriminates message due) answer) → Gives (made read s source) answer
+  test_made text seen discriminates message wanted found is same types given all =
+      subst (λ o. Gives (made read s o) answer) (sym is)
+      (all (expression read s (only one.Truth) text)
+      (of_type read s wanted text found one.Truth types (subst (λ t. Gives (expression read s wanted t) found) same given)))
+
+  pub set_made : (text seen : List ℕ) (variable : Option Target) → source ≡ written.Setting variable text → seen ≡ text
+      → Gives (setting_made read s variable seen) answer → Gives (made read s source) answer
+  set_made text seen variable is same given =
+      subst (λ o. Gives (made read s o) answer) (sym is) (subst (λ t. Gives (setting_made read s variable t) answer) same given)
+
+  pub calculation_made : (text seen : List ℕ) (kind : Simple) (v : ValueType) (wanted : Types) (found : Result (List Node) Fault)
+      → source ≡ written.Calculation kind text → seen ≡ text → wanted ≡ only v → v ≡ type_of kind → Gives (expression read s wanted seen) found
+      → ((due : Nodes) → Gives due found → Gives (as_calculation kind due) answer) → Gives (made read s source) answer
+  calculation_made text seen kind v wanted found is same types of given all =
+      subst (λ o. Gives (made read s o) answer) (sym is)
+      (all (expression read s (only (type_of kind)) text)
+      (of_kind read s wanted text found v kind types of (subst (λ t. Gives (expression read s wanted t) found) same given)))
+
+-- what sets a variable, if there is one
+pub target_made : (read : List ℕ → Option Formula) (s : Statics) (answer : Result Statement Fault) (text : List ℕ) (variable : Option Target) (target : Target)
+    (found : Result (List Node) Fault) → variable ≡ Some target → Gives (setting read s target.kind text) found
+    → ((due : Nodes) → Gives due found → Gives (as_setting target due) answer) → Gives (setting_made read s variable text) answer
+target_made read s answer text variable target found is given all =
+    subst (λ o. Gives (setting_made read s o text) answer) (sym is) (all (setting read s target.kind text) given)
+
+module _ {E : Type 0} (read : List ℕ → Option Formula) (s : Statics) (r : Result (Option SchemaCause) E) where
+  -- why nothing is made of each kind
+  pub test_told : (source : Source) (text seen : List ℕ) (discriminates : Bool) (message : Option (List ℕ)) (wanted : Types) (found : Result (List Node) Fault)
+      → source ≡ written.Test text discriminates message → seen ≡ text → wanted ≡ only one.Truth → Gives (expression read s wanted seen) found
+      → ((due : Nodes) → Gives due found → IfOk r (λ cause. cause ≡ cause_in due)) → IfOk r (λ cause. cause ≡ cause_in (made read s source))
+  test_told source text seen discriminates message wanted found is same types given all =
+      let due = expression read s (only one.Truth) text in
+      subst (λ o. IfOk r (λ cause. cause ≡ cause_in (made read s o))) (sym is)
+      (caused r (cause_in due) (cause_in (as_test discriminates message due))
+      (all due (of_type read s wanted text found one.Truth types (subst (λ t. Gives (expression read s wanted t) found) same given)))
+      (test_cause discriminates message due))
+
+  pub set_told : (source : Source) (text seen : List ℕ) (variable : Option Target) → source ≡ written.Setting variable text → seen ≡ text
+      → IfOk r (λ cause. cause ≡ cause_in (setting_made read s variable seen)) → IfOk r (λ cause. cause ≡ cause_in (made read s source))
+  set_told source text seen variable is same given =
+      subst (λ o. IfOk r (λ cause. cause ≡ cause_in (made read s o))) (sym is)
+      (subst (λ t. IfOk r (λ cause. cause ≡ cause_in (setting_made read s variable t))) same given)
+
+  pub calculation_told : (source : Source) (text seen : List ℕ) (kind : Simple) (v : ValueType) (wanted : Types) (found : Result (List Node) Fault)
+      → source ≡ written.Calculation kind text → seen ≡ text → wanted ≡ only v → v ≡ type_of kind → Gives (expression read s wanted seen) found
+      → ((due : Nodes) → Gives due found → IfOk r (λ cause. cause ≡ cause_in due)) → IfOk r (λ cause. cause ≡ cause_in (made read s source))
+  calculation_told source text seen kind v wanted found is same types of given all =
+      let due = expression read s (only (type_of kind)) text in
+      subst (λ o. IfOk r (λ cause. cause ≡ cause_in (made read s o))) (sym is)
+      (caused r (cause_in due) (cause_in (as_calculation kind due))
+      (all due (of_kind read s wanted text found v kind types of (subst (λ t. Gives (expression read s wanted t) found) same given)))
+      (calculation_cause kind due))
+
+  pub target_told : (text : List ℕ) (variable : Option Target) (target : Target) (found : Result (List Node) Fault) → variable ≡ Some target
+      → Gives (setting read s target.kind text) found → ((due : Nodes) → Gives due found → IfOk r (λ cause. cause ≡ cause_in due))
+      → IfOk r (λ cause. cause ≡ cause_in (setting_made read s variable text))
+  target_told text variable target found is given all =
+      let due = setting read s target.kind text in
+      subst (λ o. IfOk r (λ cause. cause ≡ cause_in (setting_made read s o text))) (sym is)
+      (caused r (cause_in due) (cause_in (as_setting target due)) (all due given) (setting_cause target due))

@@ -1,0 +1,9 @@
+mod Bracing
+mod Compiled
+mod Constants
+mod Steps
+mod Made
+mod Gathering
+mod Tables
+mod Refused
+mod Kinded

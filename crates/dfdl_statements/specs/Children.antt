@@ -1,0 +1,57 @@
+-- What stands in a row: the rows right inside of it, and what an element, a group or a statement has.
+use Rattle.std.specs.Prelude.{ℕ, List, [], ◌∷◌, map, Option, Some, None}
+use Rattle.dfdl_forms.specs.declared.simple.Simple.{Simple}
+use Rattle.dfdl_terms.specs.declared.row.Row.{Row}
+use Rattle.dfdl_terms.specs.declared.row.Row.TheVariants.{Leaf, Elem, Group, Skip, Align, Initiator, Terminator, Separator, Scope, Boxed, PrefixedLeaf, PrefixedBox, Repeat, Optional, Choice, Statement, Concluded, Hidden, Separated}
+
+-- their numbers, in schema order
+abbrev pub children_of : Row → List ℕ
+children_of (Leaf prim) = []
+children_of (Elem name simple tried behind body) = body ∷ []
+children_of (Group children) = children
+children_of (Skip bits) = []
+children_of (Align bits) = []
+children_of (Initiator delimiter) = []
+children_of (Terminator delimiter separators) = []
+children_of Separator = []
+children_of (Scope list body) = body ∷ []
+children_of (Boxed bits body) = body ∷ []
+children_of (PrefixedLeaf prefix prim) = []
+children_of (PrefixedBox prefix body) = body ∷ []
+children_of (Repeat count body) = body ∷ []
+children_of (Optional most item initiated body) = body ∷ []
+children_of (Choice branches initiated) = branches
+children_of (Statement statement) = []
+children_of (Concluded behind body) = body ∷ []
+children_of (Hidden body) = body ∷ []
+children_of (Separated policy position initiated slots) = map (λ slot. slot.body) slots
+
+-- the same, where there may be no row
+abbrev pub children_in : Option Row → List ℕ
+children_in None = []
+children_in (Some row) = children_of row
+
+-- the content of an element
+abbrev pub content_in : Option Row → Option ℕ
+content_in (Some (Elem name simple tried behind body)) = Some body
+content_in _ = None
+
+-- its local name
+abbrev pub name_in : Option Row → Option (List ℕ)
+name_in (Some (Elem name simple tried behind body)) = Some name
+name_in _ = None
+
+-- its simple type, if it has one
+abbrev pub simple_in : Option Row → Option Simple
+simple_in (Some (Elem name simple tried behind body)) = simple
+simple_in _ = None
+
+-- the rows of a group
+abbrev pub group_in : Option Row → Option (List ℕ)
+group_in (Some (Group children)) = Some children
+group_in _ = None
+
+-- the statement that a row is
+abbrev pub statement_in : Option Row → Option ℕ
+statement_in (Some (Statement statement)) = Some statement
+statement_in _ = None

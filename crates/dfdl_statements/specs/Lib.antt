@@ -1,0 +1,10 @@
+pub mod Braces
+pub mod Texts
+pub mod Sights
+pub mod Making
+pub mod MakingShown
+pub mod Children
+pub mod Elements
+pub mod Standing
+pub mod Settled
+pub mod SettledShown

@@ -1,0 +1,142 @@
+-- What is made of a statement that a schema writes, or why none is. 'DFDL Schema Component Model' (on asserts, discriminators and
+-- variables), 'DFDL Expression Language', 'Calculated Values'.
+use Rattle.std.specs.Prelude.{◌≡◌, ℕ, Bool, true, false, if◌then◌else◌, List, [], ◌∷◌, Option, Some, None, Result, Ok, Err}
+use Rattle.std.specs.List.{list_any}
+use Rattle.dfdl_forms.specs.declared.simple.Simple.{Simple}
+use Rattle.dfdl_value.specs.declared.value.Value.{Value}
+use Rattle.dfdl_value.specs.declared.value.Value.TheVariants as value
+use Rattle.dfdl_value.specs.declared.read.NoValue.{NoValue}
+use Rattle.dfdl_value.specs.ReadValues.{reading_of}
+use Rattle.dfdl_expressions.specs.declared.node.Node.{Node}
+use Rattle.dfdl_expressions.specs.declared.node.Node.TheVariants as node
+use Rattle.dfdl_expressions.specs.declared.operator.Question.{Question}
+use Rattle.dfdl_expressions.specs.declared.operator.Question.TheVariants as question
+use Rattle.dfdl_expression_tree.specs.Trees.{Formula}
+use Rattle.dfdl_expression_types.specs.declared.fault.TypeFault.{TypeFault}
+use Rattle.dfdl_expression_types.specs.declared.fault.TypeFault.TheVariants as fault
+use Rattle.dfdl_expression_types.specs.declared.statics.Statics.{Statics}
+use Rattle.dfdl_expression_types.specs.declared.types.Types.{Types}
+use Rattle.dfdl_expression_types.specs.declared.types.ValueType.TheVariants as one
+use Rattle.dfdl_expression_types.specs.TypeSets.{are_apart, only, type_of}
+use Rattle.dfdl_expression_types.specs.Verdicts.{types_or_fault}
+use Rattle.dfdl_expression_compile.specs.Compiling.{nodes_of}
+use Rattle.dfdl_report.specs.declared.cause.SchemaCause.{SchemaCause}
+use Rattle.dfdl_report.specs.declared.cause.SchemaCause.TheVariants.{OutsideSubset, ExpressionMalformed, ExpressionType, PathNowhere, VariableMalformed}
+use Rattle.dfdl_scope.specs.Expressions.{is_expression, literal}
+use Rattle.dfdl_terms.specs.declared.statement.Statement.{Statement}
+use Rattle.dfdl_terms.specs.declared.statement.Statement.TheVariants as statement
+use Rattle.dfdl_statements.specs.declared.written.Source.{Source}
+use Rattle.dfdl_statements.specs.declared.written.Source.TheVariants as source
+use Rattle.dfdl_statements.specs.declared.written.Target.{Target}
+use Rattle.dfdl_statements.specs.declared.written.Written.{Written}
+use Rattle.dfdl_statements.specs.Braces.{unbraced}
+
+-- the nodes of an expression, or why there are none
+abbrev pub Nodes : Type 0
+Nodes = Result (List Node) SchemaCause
+
+abbrev pub is_length : Question → Bool
+is_length (question.Length extent unit) = true
+is_length question.Item = false
+is_length question.Count = false
+is_length question.Exists = false
+is_length question.Empty = false
+
+-- whether a node asks for the length of an element, which isn't kept
+abbrev pub asks_length : Node → Bool
+asks_length (node.Path question path indexes) = is_length question
+asks_length _ = false
+
+-- nodes of a value of these types, where one of some types is wanted
+abbrev pub fitting : Types → Types → List Node → Nodes
+fitting types wanted nodes =
+    if are_apart types wanted then Err ExpressionType else (if list_any asks_length nodes then Err OutsideSubset else Ok nodes)
+
+-- the same where the types may not fit, a path may lead nowhere, or a variable may not be declared
+abbrev pub checked : Result Types TypeFault → Types → List Node → Nodes
+checked (Ok types) wanted nodes = fitting types wanted nodes
+checked (Err fault.Types) wanted nodes = Err ExpressionType
+checked (Err fault.NoPath) wanted nodes = Err PathNowhere
+checked (Err fault.NoVariable) wanted nodes = Err VariableMalformed
+checked (Err fault.OutOfMemory) wanted nodes = Err ExpressionType
+
+-- the nodes of a text with this tree, where a value of some types is wanted; without one it is no expression
+abbrev pub compiled : Statics → Types → List ℕ → Option Formula → Nodes
+compiled s wanted text None = Err ExpressionMalformed
+compiled s wanted text (Some f) = checked (types_or_fault s text f) wanted (nodes_of s text f)
+
+-- texts by what they are read as
+module _ (read : List ℕ → Option Formula) where
+  -- the nodes of a text that is inside of braces
+  abbrev pub inside_braces : Statics → Types → Option (List ℕ) → Nodes
+  inside_braces s wanted None = Err ExpressionMalformed
+  inside_braces s wanted (Some text) = compiled s wanted text (read text)
+
+  -- the nodes of an expression with its braces
+  abbrev pub expression : Statics → Types → List ℕ → Nodes
+  expression s wanted text = inside_braces s wanted (unbraced text)
+
+-- the node of a constant, if it is one
+abbrev pub constant : Result Value NoValue → Nodes
+constant (Ok v) = Ok (node.Constant v ∷ [])
+constant (Err why) = Err VariableMalformed
+
+module _ (read : List ℕ → Option Formula) where
+  -- the nodes of what sets a variable of this type: an expression, or a constant
+  abbrev pub setting : Statics → Simple → List ℕ → Nodes
+  setting s kind text = if is_expression text then expression read s (only (type_of kind)) text else constant (reading_of kind (literal text))
+
+abbrev pub as_test : Bool → Option (List ℕ) → Nodes → Result Statement SchemaCause
+as_test discriminates message (Ok nodes) =
+    Ok (statement.Expression (record { expression = nodes; discriminates = discriminates; message = message }))
+as_test discriminates message (Err cause) = Err cause
+
+abbrev pub as_setting : Target → Nodes → Result Statement SchemaCause
+as_setting target (Ok nodes) = Ok (statement.Setting (record { variable = target.number; kind = target.kind; expression = nodes }))
+as_setting target (Err cause) = Err cause
+
+abbrev pub as_calculation : Simple → Nodes → Result Statement SchemaCause
+as_calculation kind (Ok nodes) = Ok (statement.Calculation (record { kind = kind; expression = nodes }))
+as_calculation kind (Err cause) = Err cause
+
+module _ (read : List ℕ → Option Formula) where
+  -- what sets a variable; one whose definition is malformed can't be set
+  abbrev pub setting_made : Statics → Option Target → List ℕ → Result Statement SchemaCause
+  setting_made s None text = Err VariableMalformed
+  setting_made s (Some target) text = as_setting target (setting read s target.kind text)
+
+  -- the statement that is made of what is written, where it sees this
+  abbrev pub made : Statics → Source → Result Statement SchemaCause
+  made s (source.Pattern test) = Ok (statement.Pattern test)
+  made s (source.Test text discriminates message) = as_test discriminates message (expression read s (only one.Truth) text)
+  made s (source.Setting variable text) = setting_made s variable text
+  made s (source.Calculation kind text) = as_calculation kind (expression read s (only (type_of kind)) text)
+
+-- an expression that nothing asks for
+abbrev pub never_asked : List Node
+never_asked = node.Constant (value.Truth true) ∷ []
+
+-- the statement that stands for one which no row has: it is never done
+abbrev pub unused : Source → Statement
+unused (source.Pattern test) = statement.Pattern test
+unused (source.Test text discriminates message) =
+    statement.Expression (record { expression = never_asked; discriminates = discriminates; message = message })
+unused (source.Setting variable text) = statement.Expression (record { expression = never_asked; discriminates = false; message = None })
+unused (source.Calculation kind text) = statement.Calculation (record { kind = kind; expression = never_asked })
+
+-- what calculates a value of a type
+abbrev pub IsCalculationOf : Simple → Statement → Type 0
+IsCalculationOf kind (statement.Calculation c) = c.kind ≡ kind
+IsCalculationOf kind (statement.Pattern test) = ⊥
+IsCalculationOf kind (statement.Expression test) = ⊥
+IsCalculationOf kind (statement.Setting setting) = ⊥
+
+-- of a calculation that is written a statement is one, of the same type
+abbrev pub IsOfSource : Source → Statement → Type 0
+IsOfSource (source.Pattern test) s = Unit {0}
+IsOfSource (source.Test text discriminates message) s = Unit {0}
+IsOfSource (source.Setting variable text) s = Unit {0}
+IsOfSource (source.Calculation kind text) s = IsCalculationOf kind s
+
+abbrev pub IsMadeOf : Written → Statement → Type 0
+IsMadeOf written s = IsOfSource written.source s

@@ -1,0 +1,79 @@
+-- Where the statements of rows stand, and which of them are of one component. 'DFDL Schema Component Model'.
+use Rattle.std.specs.Prelude.{ℕ, zero, suc, List, [], ◌∷◌, ◌++◌, length, Option, Some, None, slice_get, slice_index_or}
+use Rattle.std.specs.List.{flat_map}
+use Rattle.dfdl_expression_types.specs.declared.statics.Place.{Place}
+use Rattle.dfdl_expression_types.specs.declared.statics.Place.TheVariants.{Above, At, Inside}
+use Rattle.dfdl_terms.specs.declared.row.Row.{Row}
+use Rattle.dfdl_terms.specs.declared.row.Row.TheVariants.{Elem, Concluded}
+use Rattle.dfdl_statements.specs.declared.written.Source.{Source}
+use Rattle.dfdl_statements.specs.declared.written.Source.TheVariants.{Calculation}
+use Rattle.dfdl_statements.specs.declared.written.Written.{Written}
+use Rattle.dfdl_statements.specs.declared.standing.Opening.{Opening}
+use Rattle.dfdl_statements.specs.declared.standing.Standing.{Standing}
+use Rattle.dfdl_statements.specs.Children.{group_in, statement_in}
+use Rattle.dfdl_statements.specs.Elements.{turned}
+
+abbrev pub standing_of : ℕ → Place → Standing
+standing_of statement place = record { statement = statement; place = place }
+
+-- so many statements from a number on, which stand at one place
+abbrev pub standings_from : ℕ → ℕ → Place → List Standing
+standings_from first zero place = []
+standings_from first (suc count) place = standing_of first place ∷ standings_from (suc first) count place
+
+-- at the element of a number; above all where there is none
+abbrev pub at_element : Option ℕ → Place
+at_element None = Above
+at_element (Some element) = At element
+
+-- at a group right inside of the element of a number
+abbrev pub in_element : Option ℕ → Place
+in_element None = Above
+in_element (Some element) = Inside element
+
+abbrev pub source_place : Source → Option ℕ → Place
+source_place (Calculation kind text) around = at_element around
+source_place _ around = in_element around
+
+-- where a statement stands that is a row of its own, by the element around it: what calculates a value at the element, others inside of it
+abbrev pub row_place : Option Written → Option ℕ → Place
+row_place None around = in_element around
+row_place (Some written) around = source_place written.source around
+
+-- the elements around rows
+abbrev pub around_at : List (Option ℕ) → ℕ → Option ℕ
+around_at arounds row = slice_index_or arounds row None
+
+-- the statements behind an element, a sequence or a choice, where these stand, and the row that they are behind
+abbrev pub opening_in : ℕ → List (Option ℕ) → ℕ → Option Row → Option Opening
+opening_in count arounds row (Some (Elem name simple tried behind body)) =
+    Some (record { behind = behind; place = At (turned count row); body = body })
+opening_in count arounds row (Some (Concluded behind body)) =
+    Some (record { behind = behind; place = in_element (around_at arounds row); body = body })
+opening_in count arounds row _ = None
+
+module _ (rows : List Row) (written : List Written) (arounds : List (Option ℕ)) where
+  abbrev pub stated_by : ℕ → Option ℕ → List Standing
+  stated_by row None = []
+  stated_by row (Some statement) = standing_of statement (row_place (slice_get written statement) (around_at arounds row)) ∷ []
+
+  -- the statement that a row is, if it is one
+  abbrev pub stated : ℕ → List Standing
+  stated row = stated_by row (statement_in (slice_get rows row))
+
+  abbrev pub grouped_by : ℕ → Option (List ℕ) → List Standing
+  grouped_by row None = stated row
+  grouped_by row (Some children) = flat_map stated children
+
+  -- those right inside of a group, and of any other row itself
+  abbrev pub grouped : ℕ → List Standing
+  grouped row = grouped_by row (group_in (slice_get rows row))
+
+  abbrev pub standings_by : ℕ → Option Opening → List Standing
+  standings_by row None = grouped row
+  standings_by row (Some o) = standings_from o.behind.first o.behind.count o.place ++ grouped o.body
+
+  -- The statements that a component begins with at a row: those behind an element, a sequence or a choice, and with them those of the group
+  -- right inside.
+  abbrev pub standings : ℕ → List Standing
+  standings row = standings_by row (opening_in (length rows) arounds row (slice_get rows row))

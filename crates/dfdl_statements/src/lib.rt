@@ -1,0 +1,28 @@
+//! The statements of a schema's rows: their expressions compiled, and checked wherever they stand ('DFDL Schema Component Model', on
+//! asserts, discriminators and variables; 'DFDL Expression Language'; 'Calculated Values').
+//!
+//! `declare` gives the elements of rows as paths see them, and the numbers of their names. `settle` makes the statements of what the
+//! schema wrote, or tells which is refused. `specs/Making.antt` says what is made of one where it stands, `specs/Standing.antt` where
+//! each stands, and `specs/Settled.antt` what all of them come to. `valueLength` and `contentLength` are refused as outside of the
+//! subset, since lengths of elements aren't kept.
+#![tactic(auto)]
+
+mod braces;
+mod declaring;
+mod fault;
+mod making;
+mod names;
+mod rows;
+mod settling;
+mod sight;
+mod standing;
+#[cfg(test)]
+mod tests;
+mod tops;
+mod written;
+
+pub use declaring::{Declared, declare};
+pub use fault::{Refusal, StatementFault};
+pub use settling::settle;
+pub use sight::Sight;
+pub use written::{Source, Target, Written};

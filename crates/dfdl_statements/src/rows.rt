@@ -1,0 +1,120 @@
+// What stands in a row.
+ghost use Rattle.std.specs.Prelude.{◌≡◌, IfOk, Some, map, option_copied, slice_get};
+ghost use Rattle.dfdl_statements.specs.Children as children;
+
+use dfdl_terms::{Row, RowId, RowList, Slot};
+use dfdl_value::Simple;
+use std::alloc::{AllocError, Global};
+
+// The list of some rows.
+fn listed(alloc: Global, rows: &[RowId]) -> Result<RowList, AllocError>
+    ensures { IfOk result (λ l. l ≡ rows.now) }
+{
+    Ok(RowList::new(Vec::from_slice(alloc, rows)?))
+}
+
+// The rows of slots.
+fn bodies(alloc: Global, slots: &[Slot]) -> Result<RowList, AllocError>
+    ensures { IfOk result (λ l. l ≡ map (λ slot. slot.body) slots.now) }
+{
+    let mut rows = Vec::new(alloc);
+    for slot in slots {
+        rows.push(slot.body)?;
+    }
+    Ok(RowList::new(rows))
+}
+
+/// The rows right inside of a row, in schema order.
+pub(crate) fn children_of(alloc: Global, row: &Row) -> Result<RowList, AllocError>
+    ensures { IfOk result (λ l. l ≡ children.children_of row.now) }
+{
+    match row {
+        Row::Elem { body, .. } => listed(alloc, &[*body]),
+        Row::Group { children } => listed(alloc, children.as_slice()),
+        Row::Scope { body, .. } => listed(alloc, &[*body]),
+        Row::Boxed { body, .. } => listed(alloc, &[*body]),
+        Row::PrefixedBox { body, .. } => listed(alloc, &[*body]),
+        Row::Repeat { body, .. } => listed(alloc, &[*body]),
+        Row::Optional { body, .. } => listed(alloc, &[*body]),
+        Row::Choice { branches, .. } => listed(alloc, branches.as_slice()),
+        Row::Concluded { body, .. } => listed(alloc, &[*body]),
+        Row::Hidden { body } => listed(alloc, &[*body]),
+        Row::Separated { slots, .. } => bodies(alloc, slots.as_slice()),
+        Row::Leaf { .. } => listed(alloc, &[]),
+        Row::Skip { .. } => listed(alloc, &[]),
+        Row::Align { .. } => listed(alloc, &[]),
+        Row::Initiator { .. } => listed(alloc, &[]),
+        Row::Terminator { .. } => listed(alloc, &[]),
+        Row::Separator => listed(alloc, &[]),
+        Row::PrefixedLeaf { .. } => listed(alloc, &[]),
+        Row::Statement { .. } => listed(alloc, &[]),
+    }
+}
+
+/// The content of an element.
+pub(crate) fn content_of(row: &Row) -> Option<RowId>
+    ensures { result ≡ children.content_in (Some row.now) }
+{
+    match row {
+        Row::Elem { body, .. } => Some(*body),
+        _ => None,
+    }
+}
+
+/// The local name of an element.
+pub(crate) fn name_of(row: &Row) -> Option<&str>
+    ensures { option_copied result ≡ children.name_in (Some row.now) }
+{
+    match row {
+        Row::Elem { name, .. } => Some(name.as_str()),
+        _ => None,
+    }
+}
+
+/// The simple type of an element, if it has one.
+pub(crate) fn simple_of(row: &Row) -> Option<Simple>
+    ensures { result ≡ children.simple_in (Some row.now) }
+{
+    match row {
+        Row::Elem { simple, .. } => *simple,
+        _ => None,
+    }
+}
+
+/// The statement that the row of a number is.
+pub(crate) fn statement_at(rows: &[Row], row: RowId) -> Option<u32>
+    ensures { result ≡ children.statement_in (slice_get rows.now row) }
+{
+    match rows.get(row.number() as usize) {
+        Some(row) => statement_of(row),
+        None => None,
+    }
+}
+
+fn statement_of(row: &Row) -> Option<u32>
+    ensures { result ≡ children.statement_in (Some row.now) }
+{
+    match row {
+        Row::Statement { statement } => Some(*statement),
+        _ => None,
+    }
+}
+
+/// The rows of the group that the row of a number is.
+pub(crate) fn group_at<'r>(rows: &'r [Row], row: RowId) -> Option<&'r [RowId]>
+    ensures { option_copied result ≡ children.group_in (slice_get rows.now row) }
+{
+    match rows.get(row.number() as usize) {
+        Some(row) => group_of(row),
+        None => None,
+    }
+}
+
+fn group_of(row: &Row) -> Option<&[RowId]>
+    ensures { option_copied result ≡ children.group_in (Some row.now) }
+{
+    match row {
+        Row::Group { children } => Some(children.as_slice()),
+        _ => None,
+    }
+}

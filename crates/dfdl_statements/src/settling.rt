@@ -1,0 +1,395 @@
+// What the statements of a schema come to.
+ghost use Rattle.std.specs.Prelude.{◌≡◌, ◌<◌, ◌+◌, ◌^◌, ◌++◌, ◌∷◌, ℕ, List, [], None, Some, Option, Ok, Err, Result, IfOk, OnOk, length, option_map, slice_index_or, slice_set, vec_len};
+ghost use Rattle.std.specs.List.{AllZip};
+ghost use Rattle.dfdl_expression_tree.specs.Trees.{Formula};
+ghost use Rattle.dfdl_report.specs.declared.cause.SchemaCause.{SchemaCause as CauseOf};
+ghost use Rattle.dfdl_terms.specs.declared.row.Row.{Row as RowOf};
+ghost use Rattle.dfdl_terms.specs.declared.statement.Statement.{Statement as StatementOf};
+ghost use Rattle.dfdl_statements.specs.declared.written.Written.{Written as WrittenOf};
+ghost use Rattle.dfdl_statements.specs.Elements.{arounds as arounds_of, or_else};
+ghost use Rattle.dfdl_statements.specs.Standing.{standings};
+ghost use Rattle.dfdl_statements.specs.Texts.{ReadsTexts};
+ghost use Rattle.dfdl_statements.specs.Making.{IsMadeOf, unused as unused_source};
+ghost use Rattle.dfdl_statements.specs.MakingShown.{Gives};
+ghost use Rattle.dfdl_statements.specs.Settled as spec;
+ghost use Rattle.dfdl_statements.specs.SettledShown.{LooksAt, Settles, SettlesOne};
+
+use crate::fault::{Fault, Refusal, StatementFault};
+use crate::making::{judge, make, unused};
+use crate::rows::children_of;
+use crate::sight::{Sight, statics};
+use crate::standing::{Scene, Standing};
+use crate::tops::arounds;
+use crate::written::Written;
+use dfdl_expression_types::Place;
+use dfdl_report::{Place as PlaceInDocument, SchemaCause};
+use dfdl_terms::{Row, RowId, Statement};
+use std::alloc::{AllocError, Global};
+
+// The refusal of a cause.
+fn refused_at(written: &Written<'_>, cause: Option<SchemaCause>) -> Option<Refusal>
+    ensures { result ≡ option_map (λ why. spec.refused_at written.now why) cause }
+{
+    match cause {
+        Some(cause) => Some(Refusal {
+            cause,
+            place: written.place,
+        }),
+        None => None,
+    }
+}
+
+// Why a statement is refused at a place, if it is.
+fn refusal_by(
+    alloc: Global,
+    sight: &Sight<'_>,
+    written: &Written<'_>,
+    place: Place,
+) -> Result<Option<Refusal>, AllocError>
+    ensures { (read : List ℕ → Option Formula) → ReadsTexts read
+        → IfOk result (λ found. found ≡ spec.refusal_by read sight.now (Some written.now) place) }
+{
+    let cause = judge(alloc, &statics(sight, written, place), &written.source)?;
+    Ok(refused_at(written, cause))
+}
+
+fn refusal_of(
+    alloc: Global,
+    sight: &Sight<'_>,
+    written: &[Written<'_>],
+    standing: Standing,
+) -> Result<Option<Refusal>, AllocError>
+    ensures { (read : List ℕ → Option Formula) → ReadsTexts read
+        → IfOk result (λ found. found ≡ spec.refusal_of read sight.now written.now standing) }
+{
+    match written.get(standing.statement) {
+        Some(written) => refusal_by(alloc, sight, written, standing.place),
+        None => Ok(None),
+    }
+}
+
+// Whether a refusal's cause has a lower number than another's.
+fn is_lower(refusal: Refusal, other: Refusal) -> bool
+    ensures { result ≡ spec.is_lower refusal other }
+{
+    refusal.cause.number() < other.cause.number()
+}
+
+// Of two refusals that with the lower number, and of one number the first.
+fn lower(first: Option<Refusal>, second: Option<Refusal>) -> Option<Refusal>
+    ensures { result ≡ spec.lower first second }
+{
+    match (first, second) {
+        (None, other) => other,
+        (Some(first), None) => Some(first),
+        (Some(first), Some(second)) => {
+            if is_lower(second, first) {
+                Some(second)
+            } else {
+                Some(first)
+            }
+        }
+    }
+}
+
+// Of the refusals of some statements that with the lowest number.
+fn lowest(
+    alloc: Global,
+    sight: &Sight<'_>,
+    written: &[Written<'_>],
+    standings: &[Standing],
+) -> Result<Option<Refusal>, AllocError>
+    ensures { (read : List ℕ → Option Formula) → ReadsTexts read
+        → IfOk result (λ found. found ≡ spec.lowest read sight.now written.now None standings.now) }
+{
+    let mut found = None;
+    for standing in standings {
+        found = lower(found, refusal_of(alloc, sight, written, *standing)?);
+    }
+    Ok(found)
+}
+
+fn entry(table: &[Option<Refusal>], row: RowId) -> Option<Refusal>
+    ensures { result ≡ slice_index_or table.now row None }
+{
+    match table.get(row.number() as usize) {
+        Some(refusal) => *refusal,
+        None => None,
+    }
+}
+
+// The first of the refusals of some rows.
+fn first_told(table: &[Option<Refusal>], rows: &[RowId]) -> Option<Refusal>
+    ensures { result ≡ spec.first_told table.now rows.now }
+{
+    for row in rows {
+        let refusal = entry(table, *row);
+        if refusal.is_some() {
+            return refusal;
+        }
+    }
+    None
+}
+
+// The first of two refusals, if it is one, and else the second.
+fn or_else(first: Option<Refusal>, second: Option<Refusal>) -> Option<Refusal>
+    ensures { result ≡ or_else first second }
+{
+    match first {
+        Some(refusal) => Some(refusal),
+        None => second,
+    }
+}
+
+// The statements of a row's component.
+fn standings_at(
+    alloc: Global,
+    scene: &Scene<'_, '_>,
+    number: usize,
+) -> Result<Vec<Standing>, AllocError>
+    requires few { length scene.now.rows.now < 2 ^ 32 }
+    requires within { number < length scene.now.rows.now }
+    ensures { IfOk result (λ list. list.items ≡ standings scene.now.rows.now scene.now.written.now scene.now.arounds.now number) }
+{
+    let mut list = Vec::new(alloc);
+    scene.push_standings(&mut list, RowId::new(number as u32), &scene.rows[number])?;
+    Ok(list)
+}
+
+// The refusal of a row, or of what is inside of it.
+fn row_refusal(
+    alloc: Global,
+    sight: &Sight<'_>,
+    scene: &Scene<'_, '_>,
+    number: usize,
+    table: &[Option<Refusal>],
+) -> Result<Option<Refusal>, AllocError>
+    requires few { length scene.now.rows.now < 2 ^ 32 }
+    requires within { number < length scene.now.rows.now }
+    requires arounds { scene.now.arounds.now ≡ arounds_of scene.now.rows.now }
+    ensures { (read : List ℕ → Option Formula) → ReadsTexts read
+        → IfOk result (λ found. found ≡ spec.row_refusal read sight.now scene.now.rows.now scene.now.written.now number table.now) }
+{
+    let list = standings_at(alloc, scene, number)?;
+    let own = lowest(alloc, sight, scene.written, list.as_slice())?;
+    let children = children_of(alloc, &scene.rows[number])?;
+    Ok(or_else(own, first_told(table, children.as_slice())))
+}
+
+// The refusals of all rows.
+fn refusals(
+    alloc: Global,
+    sight: &Sight<'_>,
+    scene: &Scene<'_, '_>,
+) -> Result<Vec<Option<Refusal>>, AllocError>
+    requires few { length scene.now.rows.now < 2 ^ 32 }
+    requires arounds { scene.now.arounds.now ≡ arounds_of scene.now.rows.now }
+    ensures { (read : List ℕ → Option Formula) → ReadsTexts read
+        → IfOk result (λ table. table.items ≡ spec.refusals read sight.now scene.now.rows.now scene.now.written.now (length scene.now.rows.now)) }
+{
+    let mut table = Vec::new(alloc);
+    for number in 0..scene.rows.len() {
+        let refusal = row_refusal(alloc, sight, scene, number, table.as_slice())?;
+        table.push(refusal)?;
+    }
+    Ok(table)
+}
+
+// The refusal of the last row.
+fn last_refusal(
+    alloc: Global,
+    sight: &Sight<'_>,
+    scene: &Scene<'_, '_>,
+) -> Result<Option<Refusal>, AllocError>
+    requires few { length scene.now.rows.now < 2 ^ 32 }
+    requires arounds { scene.now.arounds.now ≡ arounds_of scene.now.rows.now }
+    ensures { (read : List ℕ → Option Formula) → ReadsTexts read
+        → IfOk result (λ found. found ≡ spec.refusal read sight.now scene.now.rows.now scene.now.written.now) }
+{
+    let table = refusals(alloc, sight, scene)?;
+    Ok(entry_at(table.as_slice(), scene.rows.len().saturating_sub(1)))
+}
+
+fn entry_at(table: &[Option<Refusal>], number: usize) -> Option<Refusal>
+    ensures { result ≡ slice_index_or table.now number None }
+{
+    match table.get(number) {
+        Some(refusal) => *refusal,
+        None => None,
+    }
+}
+
+// Puts where a statement stands, if there is such a statement.
+fn put(places: &mut Vec<Option<Place>>, statement: usize, place: Place)
+    ensures { places.new.items ≡ slice_set places.old.items statement (Some place) }
+{
+    if statement < places.len() {
+        places[statement] = Some(place);
+    }
+}
+
+fn note(places: &mut Vec<Option<Place>>, standings: &[Standing])
+    ensures { places.new.items ≡ spec.noted standings.now places.old.items }
+{
+    for standing in standings {
+        put(places, standing.statement, standing.place);
+    }
+}
+
+// Where each statement stands.
+fn places(alloc: Global, scene: &Scene<'_, '_>) -> Result<Vec<Option<Place>>, AllocError>
+    requires few { length scene.now.rows.now < 2 ^ 32 }
+    requires arounds { scene.now.arounds.now ≡ arounds_of scene.now.rows.now }
+    ensures { IfOk result (λ all. all.items ≡ spec.places scene.now.rows.now scene.now.written.now) }
+{
+    let mut all = vec![in alloc; None; scene.written.len()]?;
+    for number in 0..scene.rows.len() {
+        let list = standings_at(alloc, scene, number)?;
+        note(&mut all, list.as_slice());
+    }
+    Ok(all)
+}
+
+fn place_of(places: &[Option<Place>], number: usize) -> Option<Place>
+    ensures { result ≡ slice_index_or places.now number None }
+{
+    match places.get(number) {
+        Some(place) => *place,
+        None => None,
+    }
+}
+
+// What is told of a statement whose component has its start tag there.
+fn refused(at: PlaceInDocument, fault: Fault) -> StatementFault
+    ensures { (written : WrittenOf) (due : Result StatementOf CauseOf) → written.place ≡ at → Gives due (Err fault) → SettlesOne written due (Err result) }
+{
+    match fault {
+        Fault::Cause(cause) => StatementFault::Refused(Refusal { cause, place: at }),
+        Fault::OutOfMemory => StatementFault::OutOfMemory,
+    }
+}
+
+// The statement that is made at a place.
+fn made_at(
+    alloc: Global,
+    sight: &Sight<'_>,
+    written: Written<'_>,
+    place: Place,
+) -> Result<Statement, StatementFault>
+    ensures answer { (read : List ℕ → Option Formula) → ReadsTexts read
+        → SettlesOne written.entry (spec.made_at read sight.now written.entry place) result }
+    ensures kind { IfOk result (IsMadeOf written.entry) }
+{
+    let statics = statics(sight, &written, place);
+    let at = written.place;
+    match make(alloc, &statics, written.source) {
+        Ok(statement) => Ok(statement),
+        Err(fault) => Err(refused(at, fault)),
+    }
+}
+
+// The statement that stands for one which no row has.
+fn unused_of(alloc: Global, written: Written<'_>) -> Result<Statement, StatementFault>
+    ensures answer { SettlesOne written.entry (Ok (unused_source written.entry.source)) result }
+    ensures kind { IfOk result (IsMadeOf written.entry) }
+{
+    let at = written.place;
+    match unused(alloc, written.source) {
+        Ok(statement) => Ok(statement),
+        Err(fault) => Err(refused(at, fault)),
+    }
+}
+
+// The statement that is made where it may stand.
+fn made_where(
+    alloc: Global,
+    sight: &Sight<'_>,
+    written: Written<'_>,
+    place: Option<Place>,
+) -> Result<Statement, StatementFault>
+    ensures answer { (read : List ℕ → Option Formula) → ReadsTexts read
+        → SettlesOne written.entry (spec.made_where read sight.now written.entry place) result }
+    ensures kind { IfOk result (IsMadeOf written.entry) }
+{
+    match place {
+        Some(place) => made_at(alloc, sight, written, place),
+        None => unused_of(alloc, written),
+    }
+}
+
+// The statements that are made, each where it stands.
+fn made(
+    alloc: Global,
+    sight: &Sight<'_>,
+    places: &[Option<Place>],
+    written: Vec<Written<'_>>,
+) -> Result<Vec<Statement>, StatementFault>
+    ensures answer { (rows : List RowOf) (read : List ℕ → Option Formula) → ReadsTexts read → places.now ≡ spec.places rows written.entry.items
+        → Settles (spec.made_from read sight.now rows written.entry.items 0 written.entry.items) result }
+    ensures made { IfOk result (λ made. AllZip IsMadeOf written.entry.items made.items) }
+{
+    let mut statements = Vec::new(alloc);
+    for one in written {
+        let number = statements.len();
+        let place = place_of(places, number);
+        match made_where(alloc, sight, one, place) {
+            Ok(statement) => push(&mut statements, statement)?,
+            Err(fault) => return Err(fault),
+        }
+    }
+    Ok(statements)
+}
+
+fn push(statements: &mut Vec<Statement>, statement: Statement) -> Result<(), AllocError>
+    ensures items { OnOk result (statements.new.items ≡ statements.old.items ++ statement ∷ []) }
+    ensures many { OnOk result (vec_len statements.new ≡ vec_len statements.old + 1) }
+{
+    statements.push(statement)?;
+    Ok(())
+}
+
+// Where each statement stands, or the refusal of one.
+fn looked_at(
+    alloc: Global,
+    rows: &[Row],
+    sight: &Sight<'_>,
+    written: &[Written<'_>],
+) -> Result<Result<Vec<Option<Place>>, Refusal>, AllocError>
+    requires { length rows.now < 2 ^ 32 }
+    ensures { (read : List ℕ → Option Formula) → ReadsTexts read
+        → IfOk result (LooksAt rows.now written.now (spec.refusal read sight.now rows.now written.now)) }
+{
+    let arounds = arounds(alloc, rows)?;
+    let scene = Scene {
+        rows,
+        written,
+        arounds: arounds.as_slice(),
+    };
+    let refusal = last_refusal(alloc, sight, &scene)?;
+    match refusal {
+        Some(refusal) => Ok(Err(refusal)),
+        None => Ok(Ok(places(alloc, &scene)?)),
+    }
+}
+
+/// The statements of rows, each made of what is written under its number, or the first refusal of one, wherever it stands.
+///
+/// Rows are looked at from the last one on, what is inside of a row in its order. Of the statements of one component the refusal with the lowest
+/// number is told, and of these the first. `read` stands for what texts are read as.
+pub fn settle(
+    alloc: Global,
+    rows: &[Row],
+    sight: &Sight<'_>,
+    written: Vec<Written<'_>>,
+) -> Result<Vec<Statement>, StatementFault>
+    requires { length rows.now < 2 ^ 32 }
+    ensures answer { (read : List ℕ → Option Formula) → ReadsTexts read
+        → Settles (spec.settled read sight.now rows.now written.entry.items) result }
+    ensures made { IfOk result (λ made. AllZip IsMadeOf written.entry.items made.items) }
+{
+    let looked = looked_at(alloc, rows, sight, written.as_slice())?;
+    match looked {
+        Ok(places) => made(alloc, sight, places.as_slice(), written),
+        Err(refusal) => Err(StatementFault::Refused(refusal)),
+    }
+}

@@ -1,0 +1,48 @@
+use dfdl_report::Place;
+use dfdl_terms::PatternTest;
+use dfdl_value::{Simple, TextValue};
+use std::collections::BTreeMap;
+
+/// A variable that a statement sets.
+#[derive(Debug, Clone, Copy, PartialEq, Eq)]
+pub struct Target {
+    /// Its number in the tables.
+    pub number: u32,
+    /// Its type.
+    pub kind: Simple,
+}
+
+/// What a schema writes as a statement.
+#[derive(Debug, Drop)]
+pub enum Source {
+    /// A test of a pattern, which is ready.
+    Pattern(PatternTest),
+    /// A test of an expression.
+    Test {
+        text: TextValue,
+        /// It is a discriminator, and else an assert.
+        discriminates: bool,
+        /// What the schema says of a test that fails.
+        message: Option<TextValue>,
+    },
+    /// A variable is set. Where its definition is malformed there is none.
+    Setting {
+        variable: Option<Target>,
+        text: TextValue,
+    },
+    /// The value of an element that has no representation.
+    Calculation {
+        kind: Simple,
+        text: TextValue,
+    },
+}
+
+/// A statement as a schema writes it.
+#[derive(Drop)]
+pub struct Written<'s> {
+    pub source: Source,
+    /// The start tag of its component.
+    pub place: Place,
+    /// The namespaces of the prefixes in scope.
+    pub prefixes: &'s BTreeMap<String, String>,
+}

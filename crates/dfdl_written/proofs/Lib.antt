@@ -1,0 +1,4 @@
+mod Gathered
+mod Mapped
+mod Zipped
+mod Told

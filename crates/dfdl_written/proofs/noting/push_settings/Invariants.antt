@@ -1,0 +1,8 @@
+use Rattle.std.proofs.Common.{◌≡◌, ◌++◌, drop, map}
+use Rattle.dfdl_written.specs.Noting.{noted_setting}
+use Rattle.dfdl_written.proofs.noting.push_settings.Given as goal
+
+-- those so far, and those that are left
+abbrev pub invariant-loop-site : goal.invariant-loop-site
+invariant-loop-site l =
+    l.noted.items ++ map (noted_setting l.schema l.place) (drop l.site-index l.settings) ≡ l.fn.noted.items ++ map (noted_setting l.schema l.place) l.settings

@@ -1,0 +1,25 @@
+use dfdl_breaches::{CheckList, SettingList, TestList};
+use dfdl_components::Site;
+use dfdl_report::Place;
+use dfdl_statements::Source;
+use dfdl_value::TextValue;
+
+/// A statement of a component as a document writes it.
+#[derive(Debug, Drop)]
+pub struct Noted {
+    pub source: Source,
+    /// The start tag of the component.
+    pub place: Place,
+    /// The element at which its text is written.
+    pub site: Site,
+}
+
+/// What a component states: its tests of patterns, what sets variables, its tests of expressions, and the expression by which its value
+/// is calculated, if it is.
+#[derive(Debug, Drop)]
+pub struct Stated {
+    pub tests: TestList,
+    pub settings: SettingList,
+    pub checks: CheckList,
+    pub calculation: Option<TextValue>,
+}

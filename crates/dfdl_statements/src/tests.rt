@@ -1,6 +1,8 @@
 // Statements over small rows: r has x, an int, and in the group of r something is set; behind x and behind r there are tests.
 #![tactic(auto)]
 
+ghost use Rattle.std.specs.Prelude.{◌≡◌, ◌<◌, ◌^◌, IfOk, length};
+
 use crate::{Sight, Source, StatementFault, Target, Written, declare, settle};
 use dfdl_expression_types::Variable;
 use dfdl_report::Place;
@@ -31,7 +33,9 @@ fn element(
     })
 }
 
-fn rows(alloc: Global) -> Result<Vec<Row>, AllocError> {
+fn rows(alloc: Global) -> Result<Vec<Row>, AllocError>
+    ensures { IfOk result (λ all. length all.items ≡ 5) }
+{
     let mut all = Vec::new(alloc);
     all.push(Row::Leaf { prim: 0 })?;
     all.push(element(alloc, "x", Some(Simple::Int), 0, 0)?)?;
@@ -44,11 +48,41 @@ fn rows(alloc: Global) -> Result<Vec<Row>, AllocError> {
     Ok(all)
 }
 
+// x alone.
+fn rows_of_one(alloc: Global) -> Result<Vec<Row>, AllocError>
+    ensures { IfOk result (λ all. length all.items ≡ 2) }
+{
+    let mut all = Vec::new(alloc);
+    all.push(Row::Leaf { prim: 0 })?;
+    all.push(element(alloc, "x", Some(Simple::Int), 0, 0)?)?;
+    Ok(all)
+}
+
+fn variables(alloc: Global) -> Result<BTreeMap<String, Variable>, AllocError> {
+    let mut map = BTreeMap::new(alloc);
+    let variable = Variable {
+        number: 0,
+        simple: Simple::Int,
+    };
+    map.insert(String::from_str(alloc, "v")?, variable)?;
+    Ok(map)
+}
+
 fn test(alloc: Global, text: &str) -> Result<Source, AllocError> {
     Ok(Source::Test {
         text: TextValue::from_str(alloc, text)?,
         discriminates: false,
         message: None,
+    })
+}
+
+fn setting(alloc: Global, text: &str) -> Result<Source, AllocError> {
+    Ok(Source::Setting {
+        variable: Some(Target {
+            number: 0,
+            kind: Simple::Int,
+        }),
+        text: TextValue::from_str(alloc, text)?,
     })
 }
 
@@ -60,108 +94,139 @@ fn written<'s>(source: Source, at: u64, prefixes: &'s BTreeMap<String, String>) 
     }
 }
 
-// The number of a refusal's cause and its place; none where the statements are made, and 0 and 0 for want of memory.
-fn refusal(answer: Result<Vec<Statement>, StatementFault>) -> Option<(u8, u64)> {
+// The number of a refusal's cause, and its place. Both are 0 where all statements are made.
+#[derive(Clone, Copy)]
+struct Answer {
+    cause: u8,
+    at: u64,
+}
+
+fn answer_of(answer: Result<Vec<Statement>, StatementFault>) -> Result<Answer, AllocError> {
     match answer {
-        Ok(_) => None,
-        Err(StatementFault::Refused(refusal)) => Some((refusal.cause.number(), refusal.place.at)),
-        Err(StatementFault::OutOfMemory) => Some((0, 0)),
+        Ok(_) => Ok(Answer { cause: 0, at: 0 }),
+        Err(StatementFault::Refused(refusal)) => Ok(Answer {
+            cause: refusal.cause.number(),
+            at: refusal.place.at,
+        }),
+        Err(StatementFault::OutOfMemory) => Err(AllocError),
     }
+}
+
+// What statements of rows come to.
+fn settled(alloc: Global, rows: &[Row], all: Vec<Written<'_>>) -> Result<Answer, AllocError>
+    requires { length rows.now < 2 ^ 32 }
+{
+    let variables = variables(alloc)?;
+    let declared = declare(alloc, rows)?;
+    let sight = Sight {
+        elements: declared.elements.as_slice(),
+        names: &declared.names,
+        variables: &variables,
+    };
+    answer_of(settle(alloc, rows, &sight, all))
 }
 
 // What three statements come to.
-fn told(alloc: Global, first: &str, setting: &str, last: &str) -> Result<Option<(u8, u64)>, Fail> {
+fn told(alloc: Global, first: &str, set: &str, last: &str) -> Result<Answer, AllocError> {
     let prefixes = BTreeMap::new(alloc);
-    let mut variables = BTreeMap::new(alloc);
-    let variable = Variable {
-        number: 0,
-        simple: Simple::Int,
-    };
-    variables.insert(String::from_str(alloc, "v")?, variable)?;
     let rows = rows(alloc)?;
-    let declared = declare(alloc, &rows)?;
     let mut all = Vec::new(alloc);
     all.push(written(test(alloc, first)?, 1, &prefixes))?;
-    let source = Source::Setting {
-        variable: Some(Target {
-            number: 0,
-            kind: Simple::Int,
-        }),
-        text: TextValue::from_str(alloc, setting)?,
-    };
-    all.push(written(source, 2, &prefixes))?;
+    all.push(written(setting(alloc, set)?, 2, &prefixes))?;
     all.push(written(test(alloc, last)?, 3, &prefixes))?;
-    let sight = Sight {
-        elements: declared.elements.as_slice(),
-        names: &declared.names,
-        variables: &variables,
-    };
-    Ok(refusal(settle(alloc, &rows, &sight, all)))
+    settled(alloc, rows.as_slice(), all)
+}
+
+fn are_made(alloc: Global, first: &str, set: &str, last: &str) -> Result<bool, AllocError> {
+    let told = told(alloc, first, set, last)?;
+    Ok(told.cause == 0)
+}
+
+// The test behind x is refused for this cause.
+fn is_refused(alloc: Global, first: &str, cause: u8) -> Result<bool, AllocError> {
+    let told = told(alloc, first, "{ 5 }", "{ x lt 5 }")?;
+    Ok(told.cause == cause && told.at == 1)
+}
+
+// The setting is refused for this cause.
+fn is_setting_refused(alloc: Global, set: &str, cause: u8) -> Result<bool, AllocError> {
+    let told = told(alloc, "{ . gt 0 }", set, "{ x lt 5 }")?;
+    Ok(told.cause == cause && told.at == 2)
+}
+
+// The test behind r is refused for this cause, and what is set for one with a higher number.
+fn is_last_refused(alloc: Global, first: &str, last: &str, cause: u8) -> Result<bool, AllocError> {
+    let told = told(alloc, first, "a", last)?;
+    Ok(told.cause == cause && told.at == 3)
 }
 
 #[test]
-fn statements_are_made_or_refused(rt: HostRuntime) -> Result<(), Fail> {
+fn statements_are_made(rt: HostRuntime) -> Result<(), Fail> {
     let alloc = rt.alloc();
-    let rows = [
-        ("{ . gt 0 }", "{ 5 }", "{ /r/x lt 5 }", None),
-        ("{ ../x gt 0 }", "-7", "{ $v eq x }", None),
-        (". gt 0", "{ 5 }", "{ x lt 5 }", Some((34, 1))),
-        ("{ . gt }", "{ 5 }", "{ x lt 5 }", Some((34, 1))),
-        ("{ . gt 'a' }", "{ 5 }", "{ x lt 5 }", Some((35, 1))),
-        ("{ . + 1 }", "{ 5 }", "{ x lt 5 }", Some((35, 1))),
-        ("{ x gt 0 }", "{ 5 }", "{ x lt 5 }", Some((36, 1))),
-        ("{ . gt $w }", "{ 5 }", "{ x lt 5 }", Some((37, 1))),
-        ("{ . gt 0 }", "{ 'a' }", "{ x lt 5 }", Some((35, 2))),
-        ("{ . gt 0 }", "a", "{ x lt 5 }", Some((37, 2))),
-        ("{ . gt 0 }", "{{ 5 }", "{ x lt 5 }", Some((37, 2))),
-        ("{ . gt 0 }", "a", "{ y lt 5 }", Some((36, 3))),
-        ("{ . gt }", "a", "{ x lt }", Some((34, 3))),
-        ("{ . gt 0 }", "{ x }", "{ x lt 5 }", Some((36, 2))),
-        ("{ . gt 0 }", "{ ../r/x }", "{ x lt 5 }", Some((36, 2))),
-        ("{ . gt 0 }", "{ ./x }", "{ x lt 5 }", Some((36, 2))),
-        ("{ . gt 0 }", "{ ../x }", "{ x lt 5 }", None),
-        (
-            "{ . gt 0 }",
-            "{ /r/x }",
-            "{ dfdl:valueLength(x, 'bits') lt 5 }",
-            Some((35, 3)),
-        ),
-    ];
-    for (first, setting, last, expected) in rows {
-        assert!(&rt; told(alloc, first, setting, last)? == expected);
-    }
+    assert!(&rt; are_made(alloc, "{ . gt 0 }", "{ 5 }", "{ /r/x lt 5 }")?);
+    assert!(&rt; are_made(alloc, "{ ../x gt 0 }", "-7", "{ $v eq x }")?);
+    assert!(&rt; are_made(alloc, "{ . gt 0 }", "{ ../x }", "{ x lt 5 }")?);
     Ok(())
 }
 
-// The same of two statements of which no row has the second.
-fn told_of_one(alloc: Global, first: &str, other: &str) -> Result<Option<(u8, u64)>, Fail> {
+#[test]
+fn tests_are_refused(rt: HostRuntime) -> Result<(), Fail> {
+    let alloc = rt.alloc();
+    assert!(&rt; is_refused(alloc, ". gt 0", 34)?);
+    assert!(&rt; is_refused(alloc, "{ . gt }", 34)?);
+    assert!(&rt; is_refused(alloc, "{ . gt 'a' }", 35)?);
+    assert!(&rt; is_refused(alloc, "{ . + 1 }", 35)?);
+    assert!(&rt; is_refused(alloc, "{ x gt 0 }", 36)?);
+    assert!(&rt; is_refused(alloc, "{ . gt $w }", 37)?);
+    Ok(())
+}
+
+#[test]
+fn settings_are_refused(rt: HostRuntime) -> Result<(), Fail> {
+    let alloc = rt.alloc();
+    assert!(&rt; is_setting_refused(alloc, "{ 'a' }", 35)?);
+    assert!(&rt; is_setting_refused(alloc, "a", 37)?);
+    assert!(&rt; is_setting_refused(alloc, "{{ 5 }", 37)?);
+    assert!(&rt; is_setting_refused(alloc, "{ x }", 36)?);
+    assert!(&rt; is_setting_refused(alloc, "{ ../r/x }", 36)?);
+    Ok(())
+}
+
+#[test]
+fn the_outermost_refusal_is_told(rt: HostRuntime) -> Result<(), Fail> {
+    let alloc = rt.alloc();
+    assert!(&rt; is_last_refused(alloc, "{ . gt 0 }", "{ y lt 5 }", 36)?);
+    assert!(&rt; is_last_refused(alloc, "{ . gt }", "{ x lt }", 34)?);
+    let length = "{ dfdl:valueLength(x, 'bits') lt 5 }";
+    assert!(&rt; is_last_refused(alloc, "{ . gt 0 }", length, 35)?);
+    Ok(())
+}
+
+// What two statements come to of which no row has the second.
+fn told_of_one(alloc: Global, first: &str, other: &str) -> Result<Answer, AllocError> {
     let prefixes = BTreeMap::new(alloc);
-    let variables = BTreeMap::new(alloc);
-    let mut rows = Vec::new(alloc);
-    rows.push(Row::Leaf { prim: 0 })?;
-    rows.push(element(alloc, "x", Some(Simple::Int), 0, 0)?)?;
-    let declared = declare(alloc, &rows)?;
+    let rows = rows_of_one(alloc)?;
     let mut all = Vec::new(alloc);
     all.push(written(test(alloc, first)?, 1, &prefixes))?;
     all.push(written(test(alloc, other)?, 2, &prefixes))?;
-    let sight = Sight {
-        elements: declared.elements.as_slice(),
-        names: &declared.names,
-        variables: &variables,
-    };
-    Ok(refusal(settle(alloc, &rows, &sight, all)))
+    settled(alloc, rows.as_slice(), all)
+}
+
+fn one_is_refused(
+    alloc: Global,
+    first: &str,
+    other: &str,
+    cause: u8,
+    at: u64,
+) -> Result<bool, AllocError> {
+    let told = told_of_one(alloc, first, other)?;
+    Ok(told.cause == cause && told.at == at)
 }
 
 #[test]
 fn statements_without_a_row_are_never_refused(rt: HostRuntime) -> Result<(), Fail> {
     let alloc = rt.alloc();
-    let rows = [
-        ("{ . gt 0 }", "{ . gt 0 }", None),
-        ("{ . gt 0 }", "{ ../y gt }", None),
-        ("{ y gt 0 }", "{ . gt 0 }", Some((36, 1))),
-    ];
-    for (first, other, expected) in rows {
-        assert!(&rt; told_of_one(alloc, first, other)? == expected);
-    }
+    assert!(&rt; one_is_refused(alloc, "{ . gt 0 }", "{ ../y gt }", 0, 0)?);
+    assert!(&rt; one_is_refused(alloc, "{ y gt 0 }", "{ . gt 0 }", 36, 1)?);
     Ok(())
 }

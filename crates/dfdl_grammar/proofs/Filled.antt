@@ -3,10 +3,12 @@ use Rattle.std.proofs.Common.{◌≡◌, ℕ, zero, suc, ◌+◌, ◌*◌, ◌/�
 use Rattle.std.specs.Prelude.{slice_get}
 use Rattle.std.proofs.lemmas.Option.{get_or_from_slice_get, slice_get_within}
 use Rattle.dfdl_bits.specs.declared.window.Seen.{Seen}
-use Rattle.dfdl_report.specs.declared.cause.ParseCause.TheVariants.{ExpressionFault, LengthOutOfRange}
+use Rattle.dfdl_report.specs.declared.cause.ParseCause.{ParseCause}
+use Rattle.dfdl_report.specs.declared.cause.ParseCause.TheVariants.{ExpressionFault, LengthOutOfRange, NegativeCount}
 use Rattle.dfdl_report.specs.declared.cause.LimitCause.TheVariants.{Nodes, Text as TextLimit}
 use Rattle.dfdl_forms.specs.declared.simple.Simple.{Simple}
 use Rattle.dfdl_terms.specs.declared.delimiters.Delimiters.{Delimiters}
+use Rattle.dfdl_terms.specs.declared.keys.Key.{Key}
 use Rattle.dfdl_terms.specs.declared.representations.Representations.{Representations}
 use Rattle.dfdl_value.specs.declared.value.Value.{Value}
 use Rattle.dfdl_value.specs.declared.value.Value.TheVariants as value
@@ -16,8 +18,8 @@ use Rattle.dfdl_paths.specs.declared.place.Start.TheVariants.{At, Inside}
 use Rattle.dfdl_surroundings.specs.Taking.{taken}
 use Rattle.dfdl_terms.specs.declared.row.Primitive.{Primitive}
 use Rattle.dfdl_terms.specs.declared.row.Row.{Row}
-use Rattle.dfdl_terms.specs.declared.row.Row.TheVariants.{Leaf, Elem, Group, Skip, Align, Initiator, Terminator, Separator, Scope, Boxed, PrefixedLeaf, PrefixedBox, Repeat, Optional, Choice as ChoiceRow, Statement, Concluded, Hidden, Separated}
-use Rattle.dfdl_terms.specs.Leaves.{ReadsBy, leaf as by_leaf, prefixed as by_prefix, grouped, scoped as scoped_reads, calculated as calculated_reads}
+use Rattle.dfdl_terms.specs.declared.row.Row.TheVariants.{Leaf, Elem, Group, Skip, Align, Initiator, Terminator, Separator, Scope, Boxed, PrefixedLeaf, PrefixedBox, MeasuredLeaf, MeasuredBox, Repeat, Counted, Optional, Choice as ChoiceRow, Dispatch, Statement, Concluded, Hidden, Separated}
+use Rattle.dfdl_terms.specs.Leaves.{ReadsBy, leaf as by_leaf, prefixed as by_prefix, measured as by_measure, grouped, scoped as scoped_reads, calculated as calculated_reads}
 use Rattle.dfdl_terms.specs.Rows.{AreWithin, IsWithin, NamesWithin, Nests, Table, named_by}
 use Rattle.dfdl_region.specs.declared.node.Content.{Content}
 use Rattle.dfdl_region.specs.declared.node.Content.TheVariants.{Begun, Complex}
@@ -51,6 +53,7 @@ use Rattle.dfdl_grammar.specs.Slots.{Sequence, separated}
 use Rattle.dfdl_grammar.specs.Elements.{attempted, begun, close, element, left}
 use Rattle.dfdl_grammar.specs.Statements.{calculated, concluded, evaluated, is_written, start_of, statement_of, told_at, with_reads}
 use Rattle.dfdl_grammar.specs.Prefixes.{bits_of_units, leaf_of, prefixed, prefixed_leaf, resized, size_of, sized_leaf}
+use Rattle.dfdl_grammar.specs.Questions.{asked_count, asked_key, measured_leaf, question_at}
 use Rattle.dfdl_grammar.specs.Rows.{below, group, meaning, row, row_at}
 use Rattle.dfdl_grammar.specs.Trees.{AreRead, HasLeaves, IsCalculation, IsInTables}
 use Rattle.dfdl_grammar.proofs.Fine.{Fills, Fine, IsRead, Reads, aside, both, closed_fine, element-ends, fine, moved, put_read, as_told, read_before, read_behind, same_or, unmarked, as_marked}
@@ -58,6 +61,7 @@ use Rattle.dfdl_grammar.proofs.Towers.{below-meaning}
 use Rattle.dfdl_grammar.proofs.Found.{value-for, whole-told}
 use Rattle.dfdl_grammar.proofs.Going.{below-goes, tried-returns, tried-stays}
 use Rattle.dfdl_grammar.proofs.Grown.{Ends, Goes, Stays}
+use Rattle.dfdl_grammar.proofs.Asked.{count-comes, key-comes}
 use Rattle.dfdl_grammar.proofs.Prefixed.{prefixed-comes}
 use Rattle.dfdl_grammar.proofs.Carried.{Carried, Carries}
 use Rattle.dfdl_grammar.proofs.Pointed.{choice-carried, occurrences-carried}
@@ -186,6 +190,31 @@ module _ (input : Input) (table : Table) (leaves : HasLeaves table) where
       let after : State = record s { at = at } in
       read_behind s after (next units after).state (moved s at s.stop) (reads units after done))
       input delimiters by own
+
+  -- a question, and what goes on by what it tells
+  asked-fills : (start : Start) (cause : ParseCause) (next : ℕ → State → Outcome) → ((count : ℕ) → Fills (next count))
+      → (found : Option (List ExpressionNode)) → Fills (asked_count table start cause next found)
+  asked-fills start cause next fills found s =
+      count-comes (λ (e : End) (t : State). e ≡ Done → Fine s t) s (λ cause kept ways done. absurd (cc)) table start cause next
+      (λ count kept ways done.
+      let after : State = record s { variables = kept } in
+      both s after (next count after).state (as_told s s s.instead s.marks kept (fine s)) (fills count after done)) found
+
+  asked-reads : (start : Start) (cause : ParseCause) (next : ℕ → State → Outcome) → ((count : ℕ) → Reads (next count))
+      → (found : Option (List ExpressionNode)) → Reads (asked_count table start cause next found)
+  asked-reads start cause next reads found s =
+      count-comes (λ (e : End) (t : State). e ≡ Done → IsRead s t) s (λ cause kept ways done. absurd (cc)) table start cause next
+      (λ count kept ways done.
+      let after : State = record s { variables = kept } in
+      read_behind s after (next count after).state (as_told s s s.instead s.marks kept (fine s)) (reads count after done)) found
+
+  key-fills : (start : Start) (child : ℕ → State → Outcome) → ((id : ℕ) → Fills (child id)) → (keys : List Key)
+      → (found : Option (List ExpressionNode)) → Fills (asked_key table start child keys found)
+  key-fills start child fills keys found s =
+      key-comes (λ (e : End) (t : State). e ≡ Done → Fine s t) s (λ cause kept ways done. absurd (cc)) table start child keys
+      (λ id kept ways done.
+      let after : State = record s { variables = kept } in
+      both s after (child id after).state (as_told s s s.instead s.marks kept (fine s)) (fills id after done)) found
 
   passed-fills : (to : ℕ) (reached : Reached Bool) (s : State) → (passed input.limits.window to reached s).end ≡ Done
       → Fine s (passed input.limits.window to reached s).state
@@ -472,6 +501,15 @@ module _ (input : Input) (table : Table) (leaves : HasLeaves table) where
         subst (λ (o : Outcome). IsRead s o.state) (sym same)
         (prefixed-reads table.delimiters by prefix.own (λ units after. sized_leaf input table.delimiters nil (Some there.0) (size_of prefix.unit units) after)
         (λ units. sized-reads table.delimiters nil there.0 (size_of prefix.unit units)) s (ap (λ (o : Outcome). o.end) (sym same) ∙ done))
+    reads-below n fills _ less (by_measure id prim measure row_is prim_is) s known done =
+        let nil : Option (List Value) = nil_values table.primitives s.instead in
+        let there = used_is s.instead prim known prim_is in
+        let same : below input table n id s ≡ spend one_row (measured_leaf input table measure nil (Some there.0) s) =
+        row-below n id (Some (MeasuredLeaf measure prim)) less row_is s ∙ ap (λ (p : Option Primitive). spend one_row (measured_leaf input table measure nil p s)) there.1 in
+        subst (λ (o : Outcome). IsRead s o.state) (sym same)
+        (asked-reads (At s.inside) LengthOutOfRange (λ units after. sized_leaf input table.delimiters nil (Some there.0) (size_of measure.unit units) after)
+        (λ units. sized-reads table.delimiters nil there.0 (size_of measure.unit units)) (question_at table measure.question) s
+        (ap (λ (o : Outcome). o.end) (sym same) ∙ done))
     reads-below n fills _ less (grouped id at child children row_is at_is inner) s known done =
         let same : below input table n id s ≡ spend one_row (group (below input table id) children s) = row-below n id (Some (Group children)) less row_is s in
         let all : All (λ c. c < id) children = nests id (Group children) (slice_get_within table.rows id (Group children) row_is) row_is in
@@ -555,11 +593,29 @@ module _ (input : Input) (table : Table) (leaves : HasLeaves table) where
         prefixed-fills table.delimiters (slice_get table.primitives prefix.prim) prefix.own
         (λ units after. sized_leaf input table.delimiters nil primitive (size_of prefix.unit units) after)
         (λ units. sized-fills table.delimiters nil primitive (size_of prefix.unit units)) s done
+    row-fills id fills (Some (MeasuredLeaf measure prim)) is s done =
+        let nil : Option (List Value) = nil_values table.primitives s.instead in
+        let primitive : Option Primitive = slice_get table.primitives (read_by table.primitives s.instead prim) in
+        asked-fills (At s.inside) LengthOutOfRange
+        (λ units after. sized_leaf input table.delimiters nil primitive (size_of measure.unit units) after)
+        (λ units. sized-fills table.delimiters nil primitive (size_of measure.unit units)) (question_at table measure.question) s done
+    row-fills id fills (Some (MeasuredBox measure body)) is s done =
+        let inner : State → Outcome = below input table id body in
+        asked-fills (At s.inside) LengthOutOfRange
+        (λ units after. boxed input (bits_of_units measure.unit units) inner after)
+        (λ units after. boxed-fills (bits_of_units measure.unit units) inner (fills id (omega arith) body) after
+        (nat_le (after.at + bits_of_units measure.unit units) after.stop)) (question_at table measure.question) s done
     row-fills id fills (Some (Repeat count body)) is s done = group-fills (below input table id) (λ i. fills id (omega arith) i) (replicate count body) s done
+    row-fills id fills (Some (Counted question body)) is s done =
+        let child : ℕ → State → Outcome = below input table id in
+        asked-fills (Inside s.inside) NegativeCount (λ count after. group child (replicate count body) after)
+        (λ count. group-fills child (λ i. fills id (omega arith) i) (replicate count body)) (question_at table question) s done
     row-fills id fills (Some (Optional most item initiated body)) is s done =
         occurrences-fill (below input table id body) (fills id (omega arith) body) (below-goes input table id body) initiated most s done
     row-fills id fills (Some (ChoiceRow branches initiated)) is s done =
         choice-fills (below input table id) (λ i. fills id (omega arith) i) (below-goes input table id) initiated branches s done
+    row-fills id fills (Some (Dispatch question keys)) is s done =
+        key-fills (Inside s.inside) (below input table id) (λ i. fills id (omega arith) i) keys (question_at table question) s done
     row-fills id fills (Some (Statement number)) is s done =
         statement-comes input (λ (t : State). Fine s t) (λ (e : End) (t : State). e ≡ Done → Fine s t) (filling-tells s) table number s (fine s) done
     row-fills id fills (Some (Concluded behind body)) is s done =

@@ -4,13 +4,14 @@ use Rattle.std.proofs.Math.Seq.{take-append_seam}
 use Rattle.std.specs.Prelude.{slice_get}
 use Rattle.dfdl_report.specs.declared.cause.LimitCause.TheVariants.{Nodes, Text as TextLimit}
 use Rattle.dfdl_report.specs.declared.cause.ParseCause.{ParseCause}
-use Rattle.dfdl_report.specs.declared.cause.ParseCause.TheVariants.{LengthOutOfRange, RequiredEmpty}
+use Rattle.dfdl_report.specs.declared.cause.ParseCause.TheVariants.{LengthOutOfRange, NegativeCount, RequiredEmpty}
+use Rattle.dfdl_terms.specs.declared.keys.Key.{Key}
 use Rattle.dfdl_terms.specs.declared.delimiters.Delimiters.{Delimiters}
 use Rattle.dfdl_terms.specs.declared.representations.Representations.{Representations}
 use Rattle.dfdl_value.specs.declared.value.Value.{Value}
 use Rattle.dfdl_terms.specs.declared.row.Primitive.{Primitive}
 use Rattle.dfdl_terms.specs.declared.row.Row.{Row}
-use Rattle.dfdl_terms.specs.declared.row.Row.TheVariants.{Leaf, Elem, Group, Skip, Align, Initiator, Terminator, Separator, Scope, Boxed, PrefixedLeaf, PrefixedBox, Repeat, Optional, Choice as ChoiceRow, Statement, Concluded, Hidden, Separated}
+use Rattle.dfdl_terms.specs.declared.row.Row.TheVariants.{Leaf, Elem, Group, Skip, Align, Initiator, Terminator, Separator, Scope, Boxed, PrefixedLeaf, PrefixedBox, MeasuredLeaf, MeasuredBox, Repeat, Counted, Optional, Choice as ChoiceRow, Dispatch, Statement, Concluded, Hidden, Separated}
 use Rattle.dfdl_separators.specs.declared.policy.SeparatorSuppressionPolicy.{SeparatorSuppressionPolicy}
 use Rattle.dfdl_terms.specs.declared.slots.Slot.{Slot}
 use Rattle.dfdl_terms.specs.declared.statement.Statements.{Statements}
@@ -18,6 +19,7 @@ use Rattle.dfdl_terms.specs.declared.text.TextSize.{TextSize}
 use Rattle.dfdl_terms.specs.Rows.{Table}
 use Rattle.dfdl_paths.specs.declared.place.Start.{Start}
 use Rattle.dfdl_paths.specs.declared.place.Start.TheVariants.{At, Inside}
+use Rattle.dfdl_expressions.specs.declared.node.Node.{Node as ExpressionNode}
 use Rattle.dfdl_vars.specs.Kept.{Kept}
 use Rattle.dfdl_region.specs.declared.node.Node.{Node}
 use Rattle.dfdl_region.specs.declared.node.Content.{Content}
@@ -45,14 +47,16 @@ use Rattle.dfdl_grammar.specs.Slots.{Sequence, separated}
 use Rattle.dfdl_grammar.specs.Elements.{attempted, begun, close, element, has_elements, left}
 use Rattle.dfdl_grammar.specs.Statements.{concluded, told_at}
 use Rattle.dfdl_grammar.specs.Prefixes.{bits_of_units, leaf_of, prefixed, resized, size_of, sized_leaf}
+use Rattle.dfdl_grammar.specs.Questions.{asked_count, asked_key, question_at}
 use Rattle.dfdl_grammar.specs.Rows.{below, group, meaning, row, row_at}
+use Rattle.dfdl_grammar.proofs.Asked.{count-comes, key-comes}
 use Rattle.dfdl_grammar.proofs.Prefixed.{prefixed-comes}
 use Rattle.dfdl_grammar.proofs.Pointed.{choice-carried, occurrences-carried}
 use Rattle.dfdl_grammar.proofs.Represented.{AreMarked, GoesBack, again_at, any_ok, marked_by, refused, represented-comes}
 use Rattle.dfdl_grammar.proofs.Resolved.{outer_same}
 use Rattle.dfdl_grammar.proofs.Gone.{EndsBy, GoneBy, going, going-carried}
 use Rattle.dfdl_grammar.proofs.Stated.{Restates, Tells, concluded-comes, statement-comes}
-use Rattle.dfdl_grammar.proofs.Ways.{IsBack, IsWay, back_goes, goes_same, goes_twice}
+use Rattle.dfdl_grammar.proofs.Ways.{GoesOn, IsBack, IsWay, back_goes, goes_same, goes_twice}
 use Rattle.dfdl_grammar.proofs.Slotted.{separated-carried}
 use Rattle.dfdl_grammar.proofs.Sought.{initiator-comes, separator-comes, terminator-comes}
 use Rattle.dfdl_grammar.proofs.Grown.{any_one, begun-longer, behind, content-length, content_twice, failed_returns, front_same, grown, grown_twice, is_nothing, kept_at, moved, moved_as, other_same, still, twice, unmarked_went, went_as, went_kept, Ends, Goes, Grown, Went}
@@ -135,6 +139,33 @@ module _ (input : Input) where
       let after : State = record s { at = at } in
       twice s.inside s after (next units after).state (next units after).end (moved s.inside s at s.stop) (goes units after))
       input delimiters by own
+
+  -- a question, and what goes on by what it tells
+  read-goes : (s : State) (kept : Kept) (e : End) (t : State) → GoesOn s.variables kept → Went s.inside (record s { variables = kept }) e t
+      → Went s.inside s e t
+  read-goes s kept e t ways went = went_as s.inside s t s.marks kept e refl ways went
+
+  asked-goes : (table : Table) (start : Start) (cause : ParseCause) (next : ℕ → State → Outcome) → ((count : ℕ) → Goes (next count))
+      → (found : Option (List ExpressionNode)) → Goes (asked_count table start cause next found)
+  asked-goes table start cause next goes found s =
+      count-comes (λ (e : End) (t : State). Went s.inside s e t) s
+      (λ cause kept ways.
+      let after : State = record s { variables = kept } in
+      read-goes s kept (Failed cause s.at) after ways (still s.inside (Failed cause s.at) after)) table start cause next
+      (λ count kept ways.
+      let o : Outcome = next count (record s { variables = kept }) in
+      read-goes s kept o.end o.state ways (goes count (record s { variables = kept }))) found
+
+  key-goes : (table : Table) (start : Start) (child : ℕ → State → Outcome) → ((id : ℕ) → Goes (child id)) → (keys : List Key)
+      → (found : Option (List ExpressionNode)) → Goes (asked_key table start child keys found)
+  key-goes table start child goes keys found s =
+      key-comes (λ (e : End) (t : State). Went s.inside s e t) s
+      (λ cause kept ways.
+      let after : State = record s { variables = kept } in
+      read-goes s kept (Failed cause s.at) after ways (still s.inside (Failed cause s.at) after)) table start child keys
+      (λ id kept ways.
+      let o : Outcome = child id (record s { variables = kept }) in
+      read-goes s kept o.end o.state ways (goes id (record s { variables = kept }))) found
 
   passed-goes : (to : ℕ) (reached : Reached Bool) → Goes (passed input.limits.window to reached)
   passed-goes to (Told true) s = moved s.inside s to s.stop
@@ -535,9 +566,23 @@ module _ (input : Input) where
         let primitive : Option Primitive = slice_get table.primitives (read_by table.primitives s.instead prim) in
         prefixed-goes table.delimiters (slice_get table.primitives prefix.prim) prefix.own (λ units after. sized_leaf input table.delimiters nil primitive (size_of prefix.unit units) after)
         (λ units. sized-goes table.delimiters nil primitive (size_of prefix.unit units)) s
+    row-goes child goes id (Some (MeasuredLeaf measure prim)) s =
+        let nil : Option (List Value) = nil_values table.primitives s.instead in
+        let primitive : Option Primitive = slice_get table.primitives (read_by table.primitives s.instead prim) in
+        asked-goes table (At s.inside) LengthOutOfRange (λ units after. sized_leaf input table.delimiters nil primitive (size_of measure.unit units) after)
+        (λ units. sized-goes table.delimiters nil primitive (size_of measure.unit units)) (question_at table measure.question) s
+    row-goes child goes id (Some (MeasuredBox measure body)) s =
+        asked-goes table (At s.inside) LengthOutOfRange (λ units after. boxed input (bits_of_units measure.unit units) (child body) after)
+        (λ units after. boxed-goes (bits_of_units measure.unit units) (child body) (goes body) after (nat_le (after.at + bits_of_units measure.unit units) after.stop))
+        (question_at table measure.question) s
     row-goes child goes id (Some (Repeat count body)) s = group-goes child goes (replicate count body) s
+    row-goes child goes id (Some (Counted question body)) s =
+        asked-goes table (Inside s.inside) NegativeCount (λ count after. group child (replicate count body) after)
+        (λ count. group-goes child goes (replicate count body)) (question_at table question) s
     row-goes child goes id (Some (Optional most item initiated body)) s = occurrences-go (child body) (goes body) initiated most s
     row-goes child goes id (Some (ChoiceRow branches initiated)) s = choice-goes child goes initiated branches s
+    row-goes child goes id (Some (Dispatch question keys)) s =
+        key-goes table (Inside s.inside) child goes keys (question_at table question) s
     row-goes child goes id (Some (Statement number)) s =
         statement-comes input (λ (t : State). Went s.inside s Done t) (λ (e : End) (t : State). Went s.inside s e t) (going-tells s) table number s
         (still s.inside Done s)

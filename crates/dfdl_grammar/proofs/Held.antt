@@ -18,13 +18,16 @@ use Rattle.dfdl_number_text.specs.declared.fault.NumberFault.TheVariants as faul
 use Rattle.dfdl_value.specs.declared.value.Value.{Value}
 use Rattle.dfdl_value.specs.declared.value.Value.TheVariants.{Int, Uns, Dec, Text as TextValue, Truth as TruthValue, Bytes}
 use Rattle.dfdl_report.specs.declared.cause.LimitCause.TheVariants.{Nodes, Text as TextLimit}
-use Rattle.dfdl_report.specs.declared.cause.ParseCause.TheVariants.{DataEnds, LengthOutOfRange, NotFilled, RequiredEmpty}
+use Rattle.dfdl_report.specs.declared.cause.ParseCause.{ParseCause}
+use Rattle.dfdl_report.specs.declared.cause.ParseCause.TheVariants.{DataEnds, LengthOutOfRange, NegativeCount, NotFilled, RequiredEmpty}
+use Rattle.dfdl_expressions.specs.declared.node.Node.{Node as ExpressionNode}
+use Rattle.dfdl_terms.specs.declared.keys.Key.{Key}
 use Rattle.dfdl_terms.specs.declared.delimiters.Delimiters.{Delimiters}
 use Rattle.dfdl_terms.specs.declared.representations.Representations.{Representations}
 use Rattle.dfdl_terms.specs.declared.row.Primitive.{Primitive}
 use Rattle.dfdl_terms.specs.declared.row.Primitive.TheVariants.{Integer, Packed, Truth, Octets, Text as Characters, NilOctets, Default, NilValues, Pattern}
 use Rattle.dfdl_terms.specs.declared.row.Row.{Row}
-use Rattle.dfdl_terms.specs.declared.row.Row.TheVariants.{Leaf, Elem, Group, Skip, Align, Initiator, Terminator, Separator, Scope, Boxed, PrefixedLeaf, PrefixedBox, Repeat, Optional, Choice as ChoiceRow, Statement, Concluded, Hidden, Separated}
+use Rattle.dfdl_terms.specs.declared.row.Row.TheVariants.{Leaf, Elem, Group, Skip, Align, Initiator, Terminator, Separator, Scope, Boxed, PrefixedLeaf, PrefixedBox, MeasuredLeaf, MeasuredBox, Repeat, Counted, Optional, Choice as ChoiceRow, Dispatch, Statement, Concluded, Hidden, Separated}
 use Rattle.dfdl_terms.specs.declared.text.NilForm.{NilForm}
 use Rattle.dfdl_terms.specs.declared.text.OctetForm.{OctetForm}
 use Rattle.dfdl_terms.specs.declared.text.PatternForm.{PatternForm}
@@ -86,11 +89,13 @@ use Rattle.dfdl_grammar.specs.Nils.{are_nil, is_nil}
 use Rattle.std.specs.List.{list_any}
 use Rattle.dfdl_grammar.specs.Statements.{concluded, is_written, told_at}
 use Rattle.dfdl_grammar.specs.Prefixes.{bits_of_units, leaf_of, prefixed, resized, size_of, sized_leaf}
+use Rattle.dfdl_grammar.specs.Questions.{asked_count, asked_key, question_at}
 use Rattle.dfdl_grammar.specs.Rows.{below, group, meaning, row, row_at}
 use Rattle.dfdl_grammar.proofs.Found.{made, told_one}
 use Rattle.dfdl_grammar.proofs.Going.{below-goes, tried-returns, tried-stays}
 use Rattle.dfdl_grammar.proofs.Grown.{Goes}
 use Rattle.dfdl_grammar.proofs.Holding.{both_have, content-has, first_has, last-bytes, rest_has, text-more, trimmed-scalars, utf8}
+use Rattle.dfdl_grammar.proofs.Asked.{count-comes, key-comes}
 use Rattle.dfdl_grammar.proofs.Prefixed.{prefixed-comes}
 use Rattle.dfdl_grammar.proofs.Carried.{Carries}
 use Rattle.dfdl_grammar.proofs.Pointed.{choice-carried, occurrences-carried}
@@ -655,6 +660,19 @@ module _ (input : Input) (small : All (λ b. b < 256) input.bytes) where
   group-keeps child keeps (id ∷ rest) s has =
       follow-keeps (child id s).end (child id s) (group child rest) (group-keeps child keeps rest) (keeps id s has)
 
+  -- a question, and what goes on by what it tells
+  asked-keeps : (table : Table) (start : Start) (cause : ParseCause) (next : ℕ → State → Outcome) → ((count : ℕ) → Keeps (next count))
+      → (found : Option (List ExpressionNode)) → Keeps (asked_count table start cause next found)
+  asked-keeps table start cause next keeps found s has =
+      count-comes (λ (e : End) (t : State). Has t) s (λ cause kept ways. has) table start cause next
+      (λ count kept ways. keeps count (record s { variables = kept }) has) found
+
+  key-keeps : (table : Table) (start : Start) (child : ℕ → State → Outcome) → ((id : ℕ) → Keeps (child id)) → (keys : List Key)
+      → (found : Option (List ExpressionNode)) → Keeps (asked_key table start child keys found)
+  key-keeps table start child keeps keys found s has =
+      key-comes (λ (e : End) (t : State). Has t) s (λ cause kept ways. has) table start child keys
+      (λ id kept ways. keeps id (record s { variables = kept }) has) found
+
   -- statements
   default-keeps : (v : Value) (t : State) → Has t → is_written v ≡ true → Has (land input.limits t.at (Told (default_find t.at v)) t).state
   default-keeps v t has written =
@@ -710,10 +728,26 @@ module _ (input : Input) (small : All (λ b. b < 256) input.bytes) where
         let primitive : Option Primitive = slice_get table.primitives used in
         prefixed-keeps table.delimiters (slice_get table.primitives prefix.prim) prefix.own (λ units after. sized_leaf input table.delimiters nil primitive (size_of prefix.unit units) after)
         (λ units. sized-keeps table.delimiters nil primitive (size_of prefix.unit units) (sound-at table.primitives used bounded)) s has
+    row-keeps child keeps goes id (Some (MeasuredLeaf measure prim)) s has =
+        let used : ℕ = read_by table.primitives s.instead prim in
+        let nil : Option (List Value) = nil_values table.primitives s.instead in
+        let primitive : Option Primitive = slice_get table.primitives used in
+        asked-keeps table (At s.inside) LengthOutOfRange (λ units after. sized_leaf input table.delimiters nil primitive (size_of measure.unit units) after)
+        (λ units. sized-keeps table.delimiters nil primitive (size_of measure.unit units) (sound-at table.primitives used bounded))
+        (question_at table measure.question) s has
+    row-keeps child keeps goes id (Some (MeasuredBox measure body)) s has =
+        asked-keeps table (At s.inside) LengthOutOfRange (λ units after. boxed input (bits_of_units measure.unit units) (child body) after)
+        (λ units after kept. boxed-keeps (bits_of_units measure.unit units) (child body) (keeps body) after kept
+        (nat_le (after.at + bits_of_units measure.unit units) after.stop)) (question_at table measure.question) s has
     row-keeps child keeps goes id (Some (Repeat count body)) s has = group-keeps child keeps (replicate count body) s has
+    row-keeps child keeps goes id (Some (Counted question body)) s has =
+        asked-keeps table (Inside s.inside) NegativeCount (λ count after. group child (replicate count body) after)
+        (λ count. group-keeps child keeps (replicate count body)) (question_at table question) s has
     row-keeps child keeps goes id (Some (Optional most item initiated body)) s has =
         occurrences-keep (child body) (keeps body) (goes body) initiated most s has
     row-keeps child keeps goes id (Some (ChoiceRow branches initiated)) s has = choice-keeps child keeps goes initiated branches s has
+    row-keeps child keeps goes id (Some (Dispatch question keys)) s has =
+        key-keeps table (Inside s.inside) child keeps keys (question_at table question) s has
     row-keeps child keeps goes id (Some (Statement number)) s has =
         statement-comes input Has (λ (e : End) (t : State). Has t) holding-tells table number s has
     row-keeps child keeps goes id (Some (Concluded behind body)) s has = concluded-keeps table (Inside s.inside) behind (child body s) (keeps body s has)

@@ -7,6 +7,7 @@ pub mod Sought
 pub mod Tested
 pub mod Ways
 pub mod Stated
+pub mod Asked
 pub mod Represented
 pub mod Grown
 pub mod Carried

@@ -3,13 +3,14 @@ use Rattle.std.proofs.Common.{◌≡◌, ℕ, zero, suc, ◌+◌, ◌-◌, ◌*�
 use Rattle.std.specs.Prelude.{slice_get}
 use Rattle.dfdl_report.specs.declared.cause.LimitCause.TheVariants.{Nodes, Text as TextLimit}
 use Rattle.dfdl_report.specs.declared.cause.ParseCause.{ParseCause}
-use Rattle.dfdl_report.specs.declared.cause.ParseCause.TheVariants.{LengthOutOfRange}
+use Rattle.dfdl_report.specs.declared.cause.ParseCause.TheVariants.{LengthOutOfRange, NegativeCount}
+use Rattle.dfdl_terms.specs.declared.keys.Key.{Key}
 use Rattle.dfdl_terms.specs.declared.delimiters.Delimiters.{Delimiters}
 use Rattle.dfdl_terms.specs.declared.representations.Representations.{Representations}
 use Rattle.dfdl_value.specs.declared.value.Value.{Value}
 use Rattle.dfdl_terms.specs.declared.row.Primitive.{Primitive}
 use Rattle.dfdl_terms.specs.declared.row.Row.{Row}
-use Rattle.dfdl_terms.specs.declared.row.Row.TheVariants.{Leaf, Elem, Group, Skip, Align, Initiator, Terminator, Separator, Scope, Boxed, PrefixedLeaf, PrefixedBox, Repeat, Optional, Choice as ChoiceRow, Statement, Concluded, Hidden, Separated}
+use Rattle.dfdl_terms.specs.declared.row.Row.TheVariants.{Leaf, Elem, Group, Skip, Align, Initiator, Terminator, Separator, Scope, Boxed, PrefixedLeaf, PrefixedBox, MeasuredLeaf, MeasuredBox, Repeat, Counted, Optional, Choice as ChoiceRow, Dispatch, Statement, Concluded, Hidden, Separated}
 use Rattle.dfdl_separators.specs.declared.policy.SeparatorSuppressionPolicy.{SeparatorSuppressionPolicy}
 use Rattle.dfdl_terms.specs.declared.slots.Slot.{Slot}
 use Rattle.dfdl_terms.specs.declared.statement.Statements.{Statements}
@@ -17,7 +18,9 @@ use Rattle.dfdl_terms.specs.declared.text.TextSize.{TextSize}
 use Rattle.dfdl_terms.specs.Rows.{IsElementRow, Table}
 use Rattle.dfdl_paths.specs.declared.place.Start.{Start}
 use Rattle.dfdl_paths.specs.declared.place.Start.TheVariants.{At, Inside}
+use Rattle.dfdl_expressions.specs.declared.node.Node.{Node as ExpressionNode}
 use Rattle.dfdl_surroundings.specs.Answers.{element_of}
+use Rattle.dfdl_vars.specs.Kept.{Kept}
 use Rattle.dfdl_region.specs.declared.node.Node.{Node}
 use Rattle.dfdl_region.specs.declared.node.Content.{Content}
 use Rattle.dfdl_region.specs.declared.node.Content.TheVariants.{Begun, Complex, Text, Octets}
@@ -45,10 +48,12 @@ use Rattle.dfdl_grammar.specs.Occurrences.{occurrences}
 use Rattle.dfdl_grammar.specs.Slots.{Sequence, separated}
 use Rattle.dfdl_grammar.specs.Statements.{concluded, told_at}
 use Rattle.dfdl_grammar.specs.Prefixes.{bits_of_units, leaf_of, prefixed, resized, size_of, sized_leaf}
+use Rattle.dfdl_grammar.specs.Questions.{asked_count, asked_key, question_at}
 use Rattle.dfdl_grammar.specs.Rows.{below, group, meaning, row, row_at}
 use Rattle.dfdl_grammar.specs.Trees.{IsNode, IsTree}
 use Rattle.dfdl_grammar.proofs.Going.{below-goes, tried-returns, tried-stays}
 use Rattle.dfdl_grammar.proofs.Grown.{Goes, begun-longer, content-length}
+use Rattle.dfdl_grammar.proofs.Asked.{count-comes, key-comes}
 use Rattle.dfdl_grammar.proofs.Prefixed.{prefixed-comes}
 use Rattle.dfdl_grammar.proofs.Carried.{Carried, Carries}
 use Rattle.dfdl_grammar.proofs.Pointed.{choice-carried, occurrences-carried}
@@ -403,6 +408,22 @@ module _ (input : Input) (table : Table) where
       let b = last.1 in
       (last.0, omega arith)
 
+  -- a question, and what goes on by what it tells
+  read-follows : (s : State) (kept : Kept) → Grows table s → Follows s (record s { variables = kept })
+  read-follows s kept good = (alike s (record s { variables = kept }) good refl refl, same_length (length s.nodes))
+
+  asked-keeps : (start : Start) (cause : ParseCause) (next : ℕ → State → Outcome) → ((count : ℕ) → Keeps (next count))
+      → (found : Option (List ExpressionNode)) → Keeps (asked_count table start cause next found)
+  asked-keeps start cause next keeps found s good =
+      count-comes (λ (e : End) (t : State). Follows s t) s (λ cause kept ways. read-follows s kept good) table start cause next
+      (λ count kept ways. keeps count (record s { variables = kept }) (read-follows s kept good).0) found
+
+  key-keeps : (start : Start) (child : ℕ → State → Outcome) → ((id : ℕ) → Keeps (child id)) → (keys : List Key)
+      → (found : Option (List ExpressionNode)) → Keeps (asked_key table start child keys found)
+  key-keeps start child keeps keys found s good =
+      key-comes (λ (e : End) (t : State). Follows s t) s (λ cause kept ways. read-follows s kept good) table start child keys
+      (λ id kept ways. keeps id (record s { variables = kept }) (read-follows s kept good).0) found
+
   -- statements
   tree-tells : (start : Start) (s : State) → Tells input.limits (λ (t : State). Stands table start s t) (λ (e : End) (t : State). Stands table start s t)
   tree-tells start s = record {
@@ -507,10 +528,24 @@ module _ (input : Input) (table : Table) where
       let primitive : Option Primitive = slice_get table.primitives (read_by table.primitives s.instead prim) in
       prefixed-keeps table.delimiters (slice_get table.primitives prefix.prim) prefix.own (λ units after. sized_leaf input table.delimiters nil primitive (size_of prefix.unit units) after)
       (λ units. sized-keeps table.delimiters nil primitive (size_of prefix.unit units)) s good
+  row-keeps child keeps goes id (Some (MeasuredLeaf measure prim)) is s good =
+      let nil : Option (List Value) = nil_values table.primitives s.instead in
+      let primitive : Option Primitive = slice_get table.primitives (read_by table.primitives s.instead prim) in
+      asked-keeps (At s.inside) LengthOutOfRange (λ units after. sized_leaf input table.delimiters nil primitive (size_of measure.unit units) after)
+      (λ units. sized-keeps table.delimiters nil primitive (size_of measure.unit units)) (question_at table measure.question) s good
+  row-keeps child keeps goes id (Some (MeasuredBox measure body)) is s good =
+      asked-keeps (At s.inside) LengthOutOfRange (λ units after. boxed input (bits_of_units measure.unit units) (child body) after)
+      (λ units after kept. boxed-keeps (bits_of_units measure.unit units) (child body) (keeps body) after kept
+      (nat_le (after.at + bits_of_units measure.unit units) after.stop)) (question_at table measure.question) s good
   row-keeps child keeps goes id (Some (Repeat count body)) is s good = group-keeps child keeps (replicate count body) s good
+  row-keeps child keeps goes id (Some (Counted question body)) is s good =
+      asked-keeps (Inside s.inside) NegativeCount (λ count after. group child (replicate count body) after)
+      (λ count. group-keeps child keeps (replicate count body)) (question_at table question) s good
   row-keeps child keeps goes id (Some (Optional most item initiated body)) is s good =
       occurrences-keep (child body) (keeps body) (goes body) initiated most s good
   row-keeps child keeps goes id (Some (ChoiceRow branches initiated)) is s good = choice-keeps child keeps goes initiated branches s good
+  row-keeps child keeps goes id (Some (Dispatch question keys)) is s good =
+      key-keeps (Inside s.inside) child keeps keys (question_at table question) s good
   row-keeps child keeps goes id (Some (Statement number)) is s good =
       let start : Start = Inside s.inside in
       let here : Stands table start s s = record { grows = good; longer = omega arith; few = good.few; open_one = good.open_one } in

@@ -17,6 +17,7 @@ pub mod Tests
 pub mod Slots
 pub mod Occurrences
 pub mod Prefixes
+pub mod Questions
 pub mod Rows
 pub mod Documents
 pub mod Paths

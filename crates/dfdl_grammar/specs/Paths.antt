@@ -3,7 +3,7 @@
 use Rattle.std.specs.Prelude.{ℕ, zero, suc, nat_eq, Bool, ◌&&◌, if◌then◌else◌, List, [], ◌++◌, take, codes, decimal, Option, Some, None, slice_get}
 use Rattle.std.specs.List.{count_by}
 use Rattle.dfdl_terms.specs.declared.row.Row.{Row}
-use Rattle.dfdl_terms.specs.declared.row.Row.TheVariants.{Leaf, Elem, Group, Skip, Align, Initiator, Terminator, Separator, Scope, Boxed, PrefixedLeaf, PrefixedBox, Repeat, Optional, Choice, Statement, Concluded, Hidden, Separated}
+use Rattle.dfdl_terms.specs.declared.row.Row.TheVariants.{Leaf, Elem, Group, Skip, Align, Initiator, Terminator, Separator, Scope, Boxed, PrefixedLeaf, PrefixedBox, MeasuredLeaf, MeasuredBox, Repeat, Counted, Optional, Choice, Dispatch, Statement, Concluded, Hidden, Separated}
 use Rattle.dfdl_terms.specs.Rows.{Table}
 use Rattle.dfdl_terms.specs.Arrays.{is_item}
 use Rattle.dfdl_region.specs.declared.node.Node.{Node}
@@ -23,9 +23,13 @@ name_of (Some (Scope list body)) = []
 name_of (Some (Boxed bits body)) = []
 name_of (Some (PrefixedLeaf prefix prim)) = []
 name_of (Some (PrefixedBox prefix body)) = []
+name_of (Some (MeasuredLeaf measure prim)) = []
+name_of (Some (MeasuredBox measure body)) = []
 name_of (Some (Repeat count body)) = []
+name_of (Some (Counted question body)) = []
 name_of (Some (Optional most item initiated body)) = []
 name_of (Some (Choice branches initiated)) = []
+name_of (Some (Dispatch question keys)) = []
 name_of (Some (Statement statement)) = []
 name_of (Some (Concluded behind body)) = []
 name_of (Some (Hidden body)) = []

@@ -1,7 +1,7 @@
 -- The meaning of each row, by that of the rows inside it, which stand below it. 'DFDL Data Syntax Grammar'.
 use Rattle.std.specs.Prelude.{ℕ, zero, suc, nat_eq, List, [], ◌∷◌, length, Option, Some, None, slice_get, replicate, if◌then◌else◌}
 use Rattle.dfdl_terms.specs.declared.row.Row.{Row}
-use Rattle.dfdl_terms.specs.declared.row.Row.TheVariants.{Leaf, Elem, Group, Skip, Align, Initiator, Terminator, Separator, Scope, Boxed, PrefixedLeaf, PrefixedBox, Repeat, Optional, Choice as ChoiceRow, Statement, Concluded, Hidden, Separated}
+use Rattle.dfdl_terms.specs.declared.row.Row.TheVariants.{Leaf, Elem, Group, Skip, Align, Initiator, Terminator, Separator, Scope, Boxed, PrefixedLeaf, PrefixedBox, MeasuredLeaf, MeasuredBox, Repeat, Counted, Optional, Choice as ChoiceRow, Dispatch, Statement, Concluded, Hidden, Separated}
 use Rattle.dfdl_terms.specs.Rows.{Table}
 use Rattle.dfdl_grammar.specs.declared.end.End.TheVariants.{Done}
 use Rattle.dfdl_looks.specs.Tallies.{one_row}
@@ -13,6 +13,7 @@ use Rattle.dfdl_grammar.specs.Delimiters.{initiator, scoped, separator, terminat
 use Rattle.dfdl_grammar.specs.Boxes.{boxed}
 use Rattle.dfdl_grammar.specs.Elements.{element, has_elements}
 use Rattle.dfdl_grammar.specs.Prefixes.{prefixed_box, prefixed_leaf}
+use Rattle.dfdl_grammar.specs.Questions.{counted, dispatched, measured_box, measured_leaf}
 use Rattle.dfdl_grammar.specs.Choices.{choice}
 use Rattle.dfdl_grammar.specs.Occurrences.{occurrences}
 use Rattle.dfdl_paths.specs.declared.place.Start.TheVariants.{At, Inside}
@@ -44,9 +45,14 @@ row input table child id (Some (PrefixedLeaf prefix prim)) s =
     (slice_get table.primitives (read_by table.primitives s.instead prim)) s
 row input table child id (Some (PrefixedBox prefix body)) s =
     prefixed_box input table.delimiters (slice_get table.primitives prefix.prim) prefix (child body) s
+row input table child id (Some (MeasuredLeaf measure prim)) s =
+    measured_leaf input table measure (nil_values table.primitives s.instead) (slice_get table.primitives (read_by table.primitives s.instead prim)) s
+row input table child id (Some (MeasuredBox measure body)) s = measured_box input table measure (child body) s
 row input table child id (Some (Repeat count body)) s = group child (replicate count body) s
+row input table child id (Some (Counted question body)) s = counted table (group child) question body s
 row input table child id (Some (Optional most item initiated body)) s = occurrences (child body) initiated most s
 row input table child id (Some (ChoiceRow branches initiated)) s = choice child initiated branches s
+row input table child id (Some (Dispatch question keys)) s = dispatched table child question keys s
 row input table child id (Some (Statement number)) s = statement input table number s
 row input table child id (Some (Concluded behind body)) s = concluded input.limits table (Inside s.inside) behind (child body s)
 row input table child id (Some (Hidden body)) s = child body s

@@ -23,7 +23,7 @@ use Rattle.dfdl_report.specs.declared.cause.VariableCause.TheVariants as variabl
 use Rattle.dfdl_terms.specs.Arrays.{item_marks}
 use Rattle.dfdl_terms.specs.Rows.{Table}
 use Rattle.dfdl_terms.specs.declared.statement.Statement.{Statement}
-use Rattle.dfdl_terms.specs.declared.statement.Statement.TheVariants.{Pattern, Expression, Setting, Calculation}
+use Rattle.dfdl_terms.specs.declared.statement.Statement.TheVariants.{Pattern, Expression, Setting, Calculation, Question}
 use Rattle.dfdl_terms.specs.declared.statement.Statements.{Statements}
 use Rattle.dfdl_looks.specs.Asks.{Told}
 use Rattle.dfdl_grammar.specs.declared.end.End.{End}
@@ -80,7 +80,7 @@ abbrev pub calculated : Limits → Result Value ℕ → State → Outcome
 calculated limits (Ok v) s = if is_written v then land limits s.at (Told (default_find s.at v)) s else ended (Failed (ExpressionFault 6) s.at) s
 calculated limits (Err cause) s = ended (Failed (ExpressionFault cause) s.at) s
 
--- what a statement comes to whose expression begins there; a test of a pattern is none
+-- what a statement comes to whose expression begins there; a test of a pattern has none, and a question is asked by its row
 abbrev pub stated : Limits → Table → Start → ℕ → Option Statement → State → Outcome
 stated limits table start number None s = ended Done s
 stated limits table start number (Some (Pattern pattern)) s = ended Done s
@@ -90,6 +90,7 @@ stated limits table start number (Some (Setting setting)) s =
     set_to setting.variable (taken setting.kind (evaluated table start setting.expression s)) (with_reads table start setting.expression s)
 stated limits table start number (Some (Calculation calculation)) s =
     calculated limits (taken calculation.kind (evaluated table start calculation.expression s)) (with_reads table start calculation.expression s)
+stated limits table start number (Some (Question question)) s = ended Done s
 
 -- where the expression of a statement begins that has a row: that of a calculated value at the open element, others at a group in it
 abbrev pub start_of : Option Statement → State → Start
@@ -136,6 +137,7 @@ reconsidered table start (Some (Expression asked)) s =
     else s
 reconsidered table start (Some (Setting setting)) s = s
 reconsidered table start (Some (Calculation calculation)) s = s
+reconsidered table start (Some (Question question)) s = s
 
 -- the discriminators among so many statements from one on
 unfoldable pub reconsidered_from : Table → Start → ℕ → ℕ → State → State

@@ -20,6 +20,8 @@
 //! - Occurrences: times of an element that are tried, one after another ('Arrays and Optional Elements').
 //! - Statements: tests of expressions, settings of variables and calculated values ('DFDL Schema Component Model').
 //! - Tests: patterns that have to match at the begin of a component ('DFDL Schema Component Model').
+//! - Questions: a length, a number of occurrences, and the key of a choice, which expressions give ('Lengths', 'Arrays and Optional
+//!   Elements', 'Choices').
 //! - Slots: the slots of a sequence with separators, some of which may be missing ('Sequence Groups').
 //! - Rows: the meaning of each row, by those below it ('DFDL Data Syntax Grammar').
 //! - Documents: the meaning of the root element's row at the front of the data, or at the byte at which a document begins.

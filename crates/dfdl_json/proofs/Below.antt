@@ -4,10 +4,10 @@ use Rattle.std.specs.List.{flat_map}
 use Rattle.std.proofs.lemmas.Bool.{cases_lt}
 use Rattle.std.proofs.lemmas.List.Elements.{All-cons, All-nil, All-append}
 use Rattle.dfdl_terms.specs.declared.row.Row.{Row}
-use Rattle.dfdl_terms.specs.declared.row.Row.TheVariants.{Leaf, Elem, Group, Skip, Align, Initiator, Terminator, Separator, Scope, Boxed, PrefixedLeaf, PrefixedBox, Repeat, Optional, Choice, Statement, Concluded, Hidden, Separated}
+use Rattle.dfdl_terms.specs.declared.row.Row.TheVariants.{Leaf, Elem, Group, Skip, Align, Initiator, Terminator, Separator, Scope, Boxed, PrefixedLeaf, PrefixedBox, MeasuredLeaf, MeasuredBox, Repeat, Counted, Optional, Choice, Dispatch, Statement, Concluded, Hidden, Separated}
 use Rattle.dfdl_terms.specs.Rows.{IsElementRow, Table}
 use Rattle.dfdl_json.specs.ByRows.{below}
-use Rattle.dfdl_json.specs.Children.{bodies_of, declared_by, elements_in}
+use Rattle.dfdl_json.specs.Children.{bodies_of, declared_by, elements_in, keyed}
 use Rattle.dfdl_json.specs.Steps.{steps_by, steps_of, total}
 use Rattle.dfdl_json.proofs.RowValues.{row_is, below_is, below_past, by_numbers}
 use Rattle.dfdl_json.proofs.Declares.{total_both}
@@ -60,6 +60,7 @@ by_kind t row (Some (Initiator delimiter)) is each = record { within = All-nil (
 by_kind t row (Some (Terminator delimiter separators)) is each = record { within = All-nil (λ c. c < suc row); few = omega arith; elements = All-nil (λ c. IsElementRow (slice_get t.rows c)) }
 by_kind t row (Some Separator) is each = record { within = All-nil (λ c. c < suc row); few = omega arith; elements = All-nil (λ c. IsElementRow (slice_get t.rows c)) }
 by_kind t row (Some (PrefixedLeaf prefix prim)) is each = record { within = All-nil (λ c. c < suc row); few = omega arith; elements = All-nil (λ c. IsElementRow (slice_get t.rows c)) }
+by_kind t row (Some (MeasuredLeaf measure prim)) is each = record { within = All-nil (λ c. c < suc row); few = omega arith; elements = All-nil (λ c. IsElementRow (slice_get t.rows c)) }
 by_kind t row (Some (Scope list body)) is each =
     let inside = one_below t row body each in
     record { within = inside.within; few = omega (arith, inside.few); elements = inside.elements }
@@ -69,7 +70,13 @@ by_kind t row (Some (Boxed bits body)) is each =
 by_kind t row (Some (PrefixedBox prefix body)) is each =
     let inside = one_below t row body each in
     record { within = inside.within; few = omega (arith, inside.few); elements = inside.elements }
+by_kind t row (Some (MeasuredBox measure body)) is each =
+    let inside = one_below t row body each in
+    record { within = inside.within; few = omega (arith, inside.few); elements = inside.elements }
 by_kind t row (Some (Repeat count body)) is each =
+    let inside = one_below t row body each in
+    record { within = inside.within; few = omega (arith, inside.few); elements = inside.elements }
+by_kind t row (Some (Counted question body)) is each =
     let inside = one_below t row body each in
     record { within = inside.within; few = omega (arith, inside.few); elements = inside.elements }
 by_kind t row (Some (Optional most item initiated body)) is each =
@@ -77,6 +84,9 @@ by_kind t row (Some (Optional most item initiated body)) is each =
     record { within = inside.within; few = omega (arith, inside.few); elements = inside.elements }
 by_kind t row (Some (Choice branches initiated)) is each =
     let all = all_below t row (below declared_by [] t.rows row) (below steps_by 0 t.rows row) (λ c. one_below t row c each) branches in
+    record { within = all.within; few = omega (arith, all.few); elements = all.elements }
+by_kind t row (Some (Dispatch question keys)) is each =
+    let all = all_below t row (below declared_by [] t.rows row) (below steps_by 0 t.rows row) (λ c. one_below t row c each) (keyed keys) in
     record { within = all.within; few = omega (arith, all.few); elements = all.elements }
 by_kind t row (Some (Statement statement)) is each = record { within = All-nil (λ c. c < suc row); few = omega arith; elements = All-nil (λ c. IsElementRow (slice_get t.rows c)) }
 by_kind t row (Some (Concluded behind body)) is each =
@@ -119,10 +129,14 @@ some_by inside row (Some Separator) = omega arith
 some_by inside row (Some (Scope list body)) = omega arith
 some_by inside row (Some (Boxed bits body)) = omega arith
 some_by inside row (Some (PrefixedLeaf prefix prim)) = omega arith
+some_by inside row (Some (MeasuredLeaf measure prim)) = omega arith
 some_by inside row (Some (PrefixedBox prefix body)) = omega arith
+some_by inside row (Some (MeasuredBox measure body)) = omega arith
 some_by inside row (Some (Repeat count body)) = omega arith
+some_by inside row (Some (Counted question body)) = omega arith
 some_by inside row (Some (Optional most item initiated body)) = omega arith
 some_by inside row (Some (Choice branches initiated)) = omega arith
+some_by inside row (Some (Dispatch question keys)) = omega arith
 some_by inside row (Some (Statement statement)) = omega arith
 some_by inside row (Some (Concluded behind body)) = omega arith
 some_by inside row (Some (Hidden body)) = omega arith

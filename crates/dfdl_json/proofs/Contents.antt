@@ -9,11 +9,13 @@ use Rattle.dfdl_forms.specs.declared.simple.Simple.{Simple}
 use Rattle.dfdl_terms.specs.declared.representations.Representations.{Representations}
 use Rattle.dfdl_terms.specs.declared.statement.Statements.{Statements}
 use Rattle.dfdl_terms.specs.declared.delimiters.Delimiter.{Delimiter}
+use Rattle.dfdl_terms.specs.declared.prefix.Measure.{Measure}
 use Rattle.dfdl_terms.specs.declared.prefix.Prefix.{Prefix}
+use Rattle.dfdl_terms.specs.declared.keys.Key.{Key}
 use Rattle.dfdl_terms.specs.declared.slots.Slot.{Slot}
 use Rattle.dfdl_separators.specs.declared.policy.SeparatorPosition.{SeparatorPosition}
 use Rattle.dfdl_separators.specs.declared.policy.SeparatorSuppressionPolicy.{SeparatorSuppressionPolicy}
-use Rattle.dfdl_terms.specs.declared.row.Row.TheVariants.{Leaf, Elem, Group, Skip, Align, Initiator, Terminator, Separator, Scope, Boxed, PrefixedLeaf, PrefixedBox, Repeat, Optional, Choice, Statement, Concluded, Hidden, Separated}
+use Rattle.dfdl_terms.specs.declared.row.Row.TheVariants.{Leaf, Elem, Group, Skip, Align, Initiator, Terminator, Separator, Scope, Boxed, PrefixedLeaf, PrefixedBox, MeasuredLeaf, MeasuredBox, Repeat, Counted, Optional, Choice, Dispatch, Statement, Concluded, Hidden, Separated}
 use Rattle.dfdl_terms.specs.declared.event.Event.TheVariants.{Start, End}
 use Rattle.dfdl_terms.specs.Rows.{Table}
 use Rattle.dfdl_json.specs.ByRows.{below}
@@ -89,17 +91,29 @@ module _ (t : Table) (row : ℕ) (content : Data) (around : Names) where
   pub prefixed_leaf_says : (prefix : Prefix) (prim : ℕ) → slice_get t.rows row ≡ Some (PrefixedLeaf prefix prim) → findings t row content around ≡ []
   prefixed_leaf_says prefix prim is = ap (λ f. f content around) (row_is (findings_by t) (λ c a. []) t.rows row (Some (PrefixedLeaf prefix prim)) is)
 
+  pub measured_leaf_says : (measure : Measure) (prim : ℕ) → slice_get t.rows row ≡ Some (MeasuredLeaf measure prim) → findings t row content around ≡ []
+  measured_leaf_says measure prim is = ap (λ f. f content around) (row_is (findings_by t) (λ c a. []) t.rows row (Some (MeasuredLeaf measure prim)) is)
+
   pub prefixed_box_says : (prefix : Prefix) (body : ℕ) → slice_get t.rows row ≡ Some (PrefixedBox prefix body) → findings t row content around ≡ []
   prefixed_box_says prefix body is = ap (λ f. f content around) (row_is (findings_by t) (λ c a. []) t.rows row (Some (PrefixedBox prefix body)) is)
 
+  pub measured_box_says : (measure : Measure) (body : ℕ) → slice_get t.rows row ≡ Some (MeasuredBox measure body) → findings t row content around ≡ []
+  measured_box_says measure body is = ap (λ f. f content around) (row_is (findings_by t) (λ c a. []) t.rows row (Some (MeasuredBox measure body)) is)
+
   pub repeat_says : (count body : ℕ) → slice_get t.rows row ≡ Some (Repeat count body) → findings t row content around ≡ []
   repeat_says count body is = ap (λ f. f content around) (row_is (findings_by t) (λ c a. []) t.rows row (Some (Repeat count body)) is)
+
+  pub counted_says : (question body : ℕ) → slice_get t.rows row ≡ Some (Counted question body) → findings t row content around ≡ []
+  counted_says question body is = ap (λ f. f content around) (row_is (findings_by t) (λ c a. []) t.rows row (Some (Counted question body)) is)
 
   pub optional_says : (most : ℕ) (item initiated : Bool) (body : ℕ) → slice_get t.rows row ≡ Some (Optional most item initiated body) → findings t row content around ≡ []
   optional_says most item initiated body is = ap (λ f. f content around) (row_is (findings_by t) (λ c a. []) t.rows row (Some (Optional most item initiated body)) is)
 
   pub choice_says : (branches : List ℕ) (initiated : Bool) → slice_get t.rows row ≡ Some (Choice branches initiated) → findings t row content around ≡ []
   choice_says branches initiated is = ap (λ f. f content around) (row_is (findings_by t) (λ c a. []) t.rows row (Some (Choice branches initiated)) is)
+
+  pub dispatch_says : (question : ℕ) (keys : List Key) → slice_get t.rows row ≡ Some (Dispatch question keys) → findings t row content around ≡ []
+  dispatch_says question keys is = ap (λ f. f content around) (row_is (findings_by t) (λ c a. []) t.rows row (Some (Dispatch question keys)) is)
 
   pub statement_says : (statement : ℕ) → slice_get t.rows row ≡ Some (Statement statement) → findings t row content around ≡ []
   statement_says statement is = ap (λ f. f content around) (row_is (findings_by t) (λ c a. []) t.rows row (Some (Statement statement)) is)

@@ -8,15 +8,17 @@ use Rattle.dfdl_forms.specs.declared.simple.Simple.{Simple}
 use Rattle.dfdl_terms.specs.declared.representations.Representations.{Representations}
 use Rattle.dfdl_terms.specs.declared.statement.Statements.{Statements}
 use Rattle.dfdl_terms.specs.declared.delimiters.Delimiter.{Delimiter}
+use Rattle.dfdl_terms.specs.declared.prefix.Measure.{Measure}
 use Rattle.dfdl_terms.specs.declared.prefix.Prefix.{Prefix}
+use Rattle.dfdl_terms.specs.declared.keys.Key.{Key}
 use Rattle.dfdl_terms.specs.declared.slots.Slot.{Slot}
 use Rattle.dfdl_separators.specs.declared.policy.SeparatorPosition.{SeparatorPosition}
 use Rattle.dfdl_separators.specs.declared.policy.SeparatorSuppressionPolicy.{SeparatorSuppressionPolicy}
 use Rattle.dfdl_terms.specs.declared.row.Row.{Row}
-use Rattle.dfdl_terms.specs.declared.row.Row.TheVariants.{Leaf, Elem, Group, Skip, Align, Initiator, Terminator, Separator, Scope, Boxed, PrefixedLeaf, PrefixedBox, Repeat, Optional, Choice, Statement, Concluded, Hidden, Separated}
+use Rattle.dfdl_terms.specs.declared.row.Row.TheVariants.{Leaf, Elem, Group, Skip, Align, Initiator, Terminator, Separator, Scope, Boxed, PrefixedLeaf, PrefixedBox, MeasuredLeaf, MeasuredBox, Repeat, Counted, Optional, Choice, Dispatch, Statement, Concluded, Hidden, Separated}
 use Rattle.dfdl_terms.specs.Rows.{Table, ChildrenBelow}
 use Rattle.dfdl_json.specs.ByRows.{below}
-use Rattle.dfdl_json.specs.Children.{bodies_of, declared_by, elements_in}
+use Rattle.dfdl_json.specs.Children.{bodies_of, declared_by, elements_in, keyed}
 use Rattle.dfdl_json.specs.Steps.{steps_by, steps_of, total}
 use Rattle.dfdl_json.proofs.RowValues.{row_is, below_is, flat_map_same, map_same}
 
@@ -53,14 +55,26 @@ module _ (t : Table) (row : ℕ) where
   pub prefixed_leaf_declares : (prefix : Prefix) (prim : ℕ) → slice_get t.rows row ≡ Some (PrefixedLeaf prefix prim) → elements_in t row ≡ []
   prefixed_leaf_declares prefix prim is = row_is declared_by [] t.rows row (Some (PrefixedLeaf prefix prim)) is
 
+  pub measured_leaf_declares : (measure : Measure) (prim : ℕ) → slice_get t.rows row ≡ Some (MeasuredLeaf measure prim) → elements_in t row ≡ []
+  measured_leaf_declares measure prim is = row_is declared_by [] t.rows row (Some (MeasuredLeaf measure prim)) is
+
   pub prefixed_box_declares : (prefix : Prefix) (body : ℕ) → slice_get t.rows row ≡ Some (PrefixedBox prefix body) → body < row
       → elements_in t row ≡ elements_in t body
   prefixed_box_declares prefix body is less =
       row_is declared_by [] t.rows row (Some (PrefixedBox prefix body)) is ∙ below_is declared_by [] t.rows row body less
 
+  pub measured_box_declares : (measure : Measure) (body : ℕ) → slice_get t.rows row ≡ Some (MeasuredBox measure body) → body < row
+      → elements_in t row ≡ elements_in t body
+  measured_box_declares measure body is less =
+      row_is declared_by [] t.rows row (Some (MeasuredBox measure body)) is ∙ below_is declared_by [] t.rows row body less
+
   pub repeat_declares : (count body : ℕ) → slice_get t.rows row ≡ Some (Repeat count body) → body < row → elements_in t row ≡ elements_in t body
   repeat_declares count body is less =
       row_is declared_by [] t.rows row (Some (Repeat count body)) is ∙ below_is declared_by [] t.rows row body less
+
+  pub counted_declares : (question body : ℕ) → slice_get t.rows row ≡ Some (Counted question body) → body < row → elements_in t row ≡ elements_in t body
+  counted_declares question body is less =
+      row_is declared_by [] t.rows row (Some (Counted question body)) is ∙ below_is declared_by [] t.rows row body less
 
   pub optional_declares : (most : ℕ) (item initiated : Bool) (body : ℕ) → slice_get t.rows row ≡ Some (Optional most item initiated body) → body < row
       → elements_in t row ≡ elements_in t body
@@ -100,6 +114,12 @@ module _ (t : Table) (row : ℕ) where
       row_is declared_by [] t.rows row (Some (Choice branches initiated)) is
       ∙ flat_map_same row (below declared_by [] t.rows row) (elements_in t) (λ b less. below_is declared_by [] t.rows row b less) branches below_row
 
+  pub dispatch_declares : (question : ℕ) (keys : List Key) → slice_get t.rows row ≡ Some (Dispatch question keys) → All (λ b. b < row) (keyed keys)
+      → elements_in t row ≡ flat_map (elements_in t) (keyed keys)
+  dispatch_declares question keys is below_row =
+      row_is declared_by [] t.rows row (Some (Dispatch question keys)) is
+      ∙ flat_map_same row (below declared_by [] t.rows row) (elements_in t) (λ b less. below_is declared_by [] t.rows row b less) (keyed keys) below_row
+
   pub no_row_steps : slice_get t.rows row ≡ None → steps_of t row ≡ 1
   no_row_steps is = row_is steps_by 0 t.rows row None is
 
@@ -132,14 +152,26 @@ module _ (t : Table) (row : ℕ) where
   pub prefixed_leaf_steps : (prefix : Prefix) (prim : ℕ) → slice_get t.rows row ≡ Some (PrefixedLeaf prefix prim) → steps_of t row ≡ 1
   prefixed_leaf_steps prefix prim is = row_is steps_by 0 t.rows row (Some (PrefixedLeaf prefix prim)) is
 
+  pub measured_leaf_steps : (measure : Measure) (prim : ℕ) → slice_get t.rows row ≡ Some (MeasuredLeaf measure prim) → steps_of t row ≡ 1
+  measured_leaf_steps measure prim is = row_is steps_by 0 t.rows row (Some (MeasuredLeaf measure prim)) is
+
   pub prefixed_box_steps : (prefix : Prefix) (body : ℕ) → slice_get t.rows row ≡ Some (PrefixedBox prefix body) → body < row
       → steps_of t row ≡ 1 + steps_of t body
   prefixed_box_steps prefix body is less =
       row_is steps_by 0 t.rows row (Some (PrefixedBox prefix body)) is ∙ ap (λ n. 1 + n) (below_is steps_by 0 t.rows row body less)
 
+  pub measured_box_steps : (measure : Measure) (body : ℕ) → slice_get t.rows row ≡ Some (MeasuredBox measure body) → body < row
+      → steps_of t row ≡ 1 + steps_of t body
+  measured_box_steps measure body is less =
+      row_is steps_by 0 t.rows row (Some (MeasuredBox measure body)) is ∙ ap (λ n. 1 + n) (below_is steps_by 0 t.rows row body less)
+
   pub repeat_steps : (count body : ℕ) → slice_get t.rows row ≡ Some (Repeat count body) → body < row → steps_of t row ≡ 1 + steps_of t body
   repeat_steps count body is less =
       row_is steps_by 0 t.rows row (Some (Repeat count body)) is ∙ ap (λ n. 1 + n) (below_is steps_by 0 t.rows row body less)
+
+  pub counted_steps : (question body : ℕ) → slice_get t.rows row ≡ Some (Counted question body) → body < row → steps_of t row ≡ 1 + steps_of t body
+  counted_steps question body is less =
+      row_is steps_by 0 t.rows row (Some (Counted question body)) is ∙ ap (λ n. 1 + n) (below_is steps_by 0 t.rows row body less)
 
   pub optional_steps : (most : ℕ) (item initiated : Bool) (body : ℕ) → slice_get t.rows row ≡ Some (Optional most item initiated body) → body < row
       → steps_of t row ≡ 1 + steps_of t body
@@ -151,6 +183,12 @@ module _ (t : Table) (row : ℕ) where
   choice_steps branches initiated is below_row =
       row_is steps_by 0 t.rows row (Some (Choice branches initiated)) is
       ∙ ap (λ ns. 1 + total ns) (map_same row (below steps_by 0 t.rows row) (steps_of t) (λ b less. below_is steps_by 0 t.rows row b less) branches below_row)
+
+  pub dispatch_steps : (question : ℕ) (keys : List Key) → slice_get t.rows row ≡ Some (Dispatch question keys) → All (λ b. b < row) (keyed keys)
+      → steps_of t row ≡ 1 + total (map (steps_of t) (keyed keys))
+  dispatch_steps question keys is below_row =
+      row_is steps_by 0 t.rows row (Some (Dispatch question keys)) is
+      ∙ ap (λ ns. 1 + total ns) (map_same row (below steps_by 0 t.rows row) (steps_of t) (λ b less. below_is steps_by 0 t.rows row b less) (keyed keys) below_row)
 
   pub statement_steps : (statement : ℕ) → slice_get t.rows row ≡ Some (Statement statement) → steps_of t row ≡ 1
   statement_steps statement is = row_is steps_by 0 t.rows row (Some (Statement statement)) is
@@ -205,8 +243,14 @@ below_concluded bound r behind body is below_row = subst (λ (x : Row). Children
 pub below_prefixed_box : (bound : ℕ) (r : Row) (prefix : Prefix) (body : ℕ) → r ≡ PrefixedBox prefix body → ChildrenBelow bound r → body < bound
 below_prefixed_box bound r prefix body is below_row = subst (λ (x : Row). ChildrenBelow bound x) is below_row
 
+pub below_measured_box : (bound : ℕ) (r : Row) (measure : Measure) (body : ℕ) → r ≡ MeasuredBox measure body → ChildrenBelow bound r → body < bound
+below_measured_box bound r measure body is below_row = subst (λ (x : Row). ChildrenBelow bound x) is below_row
+
 pub below_repeat : (bound : ℕ) (r : Row) (count body : ℕ) → r ≡ Repeat count body → ChildrenBelow bound r → body < bound
 below_repeat bound r count body is below_row = subst (λ (x : Row). ChildrenBelow bound x) is below_row
+
+pub below_counted : (bound : ℕ) (r : Row) (question body : ℕ) → r ≡ Counted question body → ChildrenBelow bound r → body < bound
+below_counted bound r question body is below_row = subst (λ (x : Row). ChildrenBelow bound x) is below_row
 
 pub below_optional : (bound : ℕ) (r : Row) (most : ℕ) (item initiated : Bool) (body : ℕ) → r ≡ Optional most item initiated body → ChildrenBelow bound r → body < bound
 below_optional bound r most item initiated body is below_row = subst (λ (x : Row). ChildrenBelow bound x) is below_row
@@ -222,6 +266,15 @@ all_bodies bound [] all = All-nil (λ b. b < bound)
 all_bodies bound (slot ∷ slots) all =
     All-cons (λ b. b < bound) slot.body (bodies_of slots) (All-head (λ s. s.body < bound) slot slots all)
     (all_bodies bound slots (All-tail (λ s. s.body < bound) slot slots all))
+
+pub all_keyed : (bound : ℕ) (keys : List Key) → All (λ key. key.body < bound) keys → All (λ b. b < bound) (keyed keys)
+all_keyed bound [] all = All-nil (λ b. b < bound)
+all_keyed bound (key ∷ keys) all =
+    All-cons (λ b. b < bound) key.body (keyed keys) (All-head (λ s. s.body < bound) key keys all)
+    (all_keyed bound keys (All-tail (λ s. s.body < bound) key keys all))
+
+pub below_dispatch : (bound : ℕ) (r : Row) (question : ℕ) (keys : List Key) → r ≡ Dispatch question keys → ChildrenBelow bound r → All (λ b. b < bound) (keyed keys)
+below_dispatch bound r question keys is below_row = all_keyed bound keys (subst (λ (x : Row). ChildrenBelow bound x) is below_row)
 
 pub below_separated : (bound : ℕ) (r : Row) (policy : SeparatorSuppressionPolicy) (position : SeparatorPosition) (initiated : Bool) (slots : List Slot)
     → r ≡ Separated policy position initiated slots → ChildrenBelow bound r → All (λ b. b < bound) (bodies_of slots)

@@ -11,7 +11,7 @@ use Rattle.dfdl_value.specs.declared.value.Value.{Value}
 use Rattle.dfdl_terms.specs.declared.representations.Representations.{Representations}
 use Rattle.dfdl_terms.specs.declared.statement.Statements.{Statements}
 use Rattle.dfdl_terms.specs.declared.row.Row.{Row}
-use Rattle.dfdl_terms.specs.declared.row.Row.TheVariants.{Leaf, Elem, Group, Skip, Align, Initiator, Terminator, Separator, Scope, Boxed, PrefixedLeaf, PrefixedBox, Repeat, Optional, Choice, Statement, Concluded, Hidden, Separated}
+use Rattle.dfdl_terms.specs.declared.row.Row.TheVariants.{Leaf, Elem, Group, Skip, Align, Initiator, Terminator, Separator, Scope, Boxed, PrefixedLeaf, PrefixedBox, MeasuredLeaf, MeasuredBox, Repeat, Counted, Optional, Choice, Dispatch, Statement, Concluded, Hidden, Separated}
 use Rattle.dfdl_terms.specs.declared.event.Event.{Event}
 use Rattle.dfdl_terms.specs.declared.event.Event.TheVariants.{Start, End}
 use Rattle.dfdl_terms.specs.Rows.{HasElementLast, IsElementRow, Nests, Table}
@@ -109,10 +109,14 @@ fits_by t nests row each (Some Separator) is content around element none = absur
 fits_by t nests row each (Some (Scope list body)) is content around element none = absurd (subst IsElementRow is element)
 fits_by t nests row each (Some (Boxed bits body)) is content around element none = absurd (subst IsElementRow is element)
 fits_by t nests row each (Some (PrefixedLeaf prefix prim)) is content around element none = absurd (subst IsElementRow is element)
+fits_by t nests row each (Some (MeasuredLeaf measure prim)) is content around element none = absurd (subst IsElementRow is element)
 fits_by t nests row each (Some (PrefixedBox prefix body)) is content around element none = absurd (subst IsElementRow is element)
+fits_by t nests row each (Some (MeasuredBox measure body)) is content around element none = absurd (subst IsElementRow is element)
 fits_by t nests row each (Some (Repeat count body)) is content around element none = absurd (subst IsElementRow is element)
+fits_by t nests row each (Some (Counted question body)) is content around element none = absurd (subst IsElementRow is element)
 fits_by t nests row each (Some (Optional most item initiated body)) is content around element none = absurd (subst IsElementRow is element)
 fits_by t nests row each (Some (Choice branches initiated)) is content around element none = absurd (subst IsElementRow is element)
+fits_by t nests row each (Some (Dispatch question keys)) is content around element none = absurd (subst IsElementRow is element)
 fits_by t nests row each (Some (Statement statement)) is content around element none = absurd (subst IsElementRow is element)
 fits_by t nests row each (Some (Concluded behind body)) is content around element none = absurd (subst IsElementRow is element)
 fits_by t nests row each (Some (Hidden body)) is content around element none = absurd (subst IsElementRow is element)

@@ -8,10 +8,10 @@ use Rattle.std.proofs.lemmas.List.Elements.{All-cons, All-nil, All-head, All-tai
 use Rattle.std.proofs.lemmas.List.Folds.{list_any_more, list_any-append}
 use Rattle.std.proofs.lemmas.Option.{get_or_from_slice_get}
 use Rattle.dfdl_terms.specs.declared.row.Row.{Row}
-use Rattle.dfdl_terms.specs.declared.row.Row.TheVariants.{Leaf, Elem, Group, Skip, Align, Initiator, Terminator, Separator, Scope, Boxed, PrefixedLeaf, PrefixedBox, Repeat, Optional, Choice, Statement, Concluded, Hidden, Separated}
+use Rattle.dfdl_terms.specs.declared.row.Row.TheVariants.{Leaf, Elem, Group, Skip, Align, Initiator, Terminator, Separator, Scope, Boxed, PrefixedLeaf, PrefixedBox, MeasuredLeaf, MeasuredBox, Repeat, Counted, Optional, Choice, Dispatch, Statement, Concluded, Hidden, Separated}
 use Rattle.dfdl_terms.specs.Arrays.{is_marked}
 use Rattle.dfdl_terms.specs.Rows.{ChildrenBelow, Table}
-use Rattle.dfdl_json.specs.Children.{bodies_of, elements_in}
+use Rattle.dfdl_json.specs.Children.{bodies_of, elements_in, keyed}
 use Rattle.dfdl_json.specs.Hidden.{hides, is_hidden, MarksHidden}
 use Rattle.dfdl_json.specs.Marking.{all_marked, passed_on}
 use Rattle.dfdl_json.proofs.Declares as declares
@@ -303,6 +303,8 @@ row_passes t k marks less (Terminator delimiter separators) is below =
 row_passes t k marks less Separator is below = bare t k Separator marks less (declares.separator_declares t k is) (λ c. refl)
 row_passes t k marks less (PrefixedLeaf prefix prim) is below =
     bare t k (PrefixedLeaf prefix prim) marks less (declares.prefixed_leaf_declares t k prefix prim is) (λ c. refl)
+row_passes t k marks less (MeasuredLeaf measure prim) is below =
+    bare t k (MeasuredLeaf measure prim) marks less (declares.measured_leaf_declares t k measure prim is) (λ c. refl)
 row_passes t k marks less (Statement statement) is below = bare t k (Statement statement) marks less (declares.statement_declares t k statement is) (λ c. refl)
 row_passes t k marks less (Scope list body) is below =
     through t k (Scope list body) marks body less below (declares.scope_declares t k list body is below) (λ c. refl)
@@ -312,14 +314,21 @@ row_passes t k marks less (Boxed bits body) is below =
     through t k (Boxed bits body) marks body less below (declares.box_declares t k bits body is below) (λ c. refl)
 row_passes t k marks less (PrefixedBox prefix body) is below =
     through t k (PrefixedBox prefix body) marks body less below (declares.prefixed_box_declares t k prefix body is below) (λ c. refl)
+row_passes t k marks less (MeasuredBox measure body) is below =
+    through t k (MeasuredBox measure body) marks body less below (declares.measured_box_declares t k measure body is below) (λ c. refl)
 row_passes t k marks less (Repeat count body) is below =
     through t k (Repeat count body) marks body less below (declares.repeat_declares t k count body is below) (λ c. refl)
+row_passes t k marks less (Counted question body) is below =
+    through t k (Counted question body) marks body less below (declares.counted_declares t k question body is below) (λ c. refl)
 row_passes t k marks less (Optional most item initiated body) is below =
     through t k (Optional most item initiated body) marks body less below (declares.optional_declares t k most item initiated body is below) (λ c. refl)
 row_passes t k marks less (Group children) is below =
     plain t k (Group children) marks children less below (declares.group_declares t k children is below) (λ c. refl)
 row_passes t k marks less (Choice branches initiated) is below =
     plain t k (Choice branches initiated) marks branches less below (declares.choice_declares t k branches initiated is below) (λ c. refl)
+row_passes t k marks less (Dispatch question keys) is below =
+    let bodies = declares.all_keyed k keys below in
+    plain t k (Dispatch question keys) marks (keyed keys) less bodies (declares.dispatch_declares t k question keys is bodies) (λ c. refl)
 row_passes t k marks less (Separated policy position initiated slots) is below =
     let bodies = declares.all_bodies k slots below in
     plain t k (Separated policy position initiated slots) marks (bodies_of slots) less bodies

@@ -13,7 +13,7 @@ use Rattle.dfdl_report.specs.declared.cause.InfosetCause.{InfosetCause}
 use Rattle.dfdl_report.specs.declared.cause.InfosetCause.TheVariants.{RootExpected, UnknownMember, ObjectExpected, StringExpected, NotAValue, NullNotAllowed}
 use Rattle.dfdl_terms.specs.Rows.{Table}
 use Rattle.dfdl_terms.specs.declared.row.Row.{Row}
-use Rattle.dfdl_terms.specs.declared.row.Row.TheVariants.{Leaf, Elem, Group, Skip, Align, Initiator, Terminator, Separator, Scope, Boxed, PrefixedLeaf, PrefixedBox, Repeat, Optional, Choice, Statement, Concluded, Hidden, Separated}
+use Rattle.dfdl_terms.specs.declared.row.Row.TheVariants.{Leaf, Elem, Group, Skip, Align, Initiator, Terminator, Separator, Scope, Boxed, PrefixedLeaf, PrefixedBox, MeasuredLeaf, MeasuredBox, Repeat, Counted, Optional, Choice, Dispatch, Statement, Concluded, Hidden, Separated}
 use Rattle.dfdl_terms.specs.declared.event.Event.{Event}
 use Rattle.dfdl_terms.specs.declared.event.Event.TheVariants.{Start, Simple as SimpleElement, End}
 use Rattle.dfdl_json.specs.ByRows.{by_rows}
@@ -119,9 +119,13 @@ findings_by t inside row (Some (Scope list body)) content around = []
 findings_by t inside row (Some (Boxed bits body)) content around = []
 findings_by t inside row (Some (PrefixedLeaf prefix prim)) content around = []
 findings_by t inside row (Some (PrefixedBox prefix body)) content around = []
+findings_by t inside row (Some (MeasuredLeaf measure prim)) content around = []
+findings_by t inside row (Some (MeasuredBox measure body)) content around = []
 findings_by t inside row (Some (Repeat count body)) content around = []
+findings_by t inside row (Some (Counted question body)) content around = []
 findings_by t inside row (Some (Optional most item initiated body)) content around = []
 findings_by t inside row (Some (Choice branches initiated)) content around = []
+findings_by t inside row (Some (Dispatch question keys)) content around = []
 findings_by t inside row (Some (Statement statement)) content around = []
 findings_by t inside row (Some (Concluded behind body)) content around = []
 findings_by t inside row (Some (Hidden body)) content around = []

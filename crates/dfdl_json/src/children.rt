@@ -5,7 +5,7 @@ ghost use Rattle.dfdl_terms.specs.Rows.{ChildrenBelow, Nests};
 ghost use Rattle.dfdl_json.specs.Children as children;
 ghost use Rattle.dfdl_json.specs.Steps.{steps_of, total};
 
-use dfdl_terms::{Row, RowId, Slot, Terms};
+use dfdl_terms::{Key, Row, RowId, Slot, Terms};
 use std::alloc::{AllocError, Global};
 use std::collections::VecDeque;
 
@@ -81,9 +81,13 @@ fn visit(
         Some(Row::Boxed { body, .. }) => push_all(left, &[*body]),
         Some(Row::PrefixedLeaf { .. }) => Ok(()),
         Some(Row::PrefixedBox { body, .. }) => push_all(left, &[*body]),
+        Some(Row::MeasuredLeaf { .. }) => Ok(()),
+        Some(Row::MeasuredBox { body, .. }) => push_all(left, &[*body]),
         Some(Row::Repeat { body, .. }) => push_all(left, &[*body]),
+        Some(Row::Counted { body, .. }) => push_all(left, &[*body]),
         Some(Row::Optional { body, .. }) => push_all(left, &[*body]),
         Some(Row::Choice { branches, .. }) => push_all(left, branches.as_slice()),
+        Some(Row::Dispatch { keys, .. }) => push_keys(left, keys.as_slice()),
         Some(Row::Statement { .. }) => Ok(()),
         Some(Row::Concluded { body, .. }) => push_all(left, &[*body]),
         Some(Row::Hidden { body }) => push_all(left, &[*body]),
@@ -98,6 +102,16 @@ fn push_slots(left: &mut VecDeque<RowId>, slots: &[Slot]) -> Result<(), AllocErr
 {
     for at in (0..slots.len()).rev() {
         left.push_front(slots[at].body)?;
+    }
+    Ok(())
+}
+
+// Puts the rows of keys before those that are left.
+fn push_keys(left: &mut VecDeque<RowId>, keys: &[Key]) -> Result<(), AllocError>
+    ensures { OnOk result (left.new.items ≡ children.keyed keys.now ++ left.old.items) }
+{
+    for at in (0..keys.len()).rev() {
+        left.push_front(keys[at].body)?;
     }
     Ok(())
 }

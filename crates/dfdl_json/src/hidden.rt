@@ -2,11 +2,11 @@
 ghost use Rattle.std.specs.Prelude.{◌≡◌, ◌<◌, All, IfOk, vec_len};
 ghost use Rattle.dfdl_terms.specs.Arrays.{is_marked};
 ghost use Rattle.dfdl_terms.specs.Rows.{ChildrenBelow};
-ghost use Rattle.dfdl_json.specs.Children.{bodies_of};
+ghost use Rattle.dfdl_json.specs.Children.{bodies_of, keyed};
 ghost use Rattle.dfdl_json.specs.Hidden.{MarksHidden};
 ghost use Rattle.dfdl_json.specs.Marking as marking;
 
-use dfdl_terms::{Row, RowId, Slot, Terms};
+use dfdl_terms::{Key, Row, RowId, Slot, Terms};
 use std::alloc::{AllocError, Global};
 use std::marker::Model;
 
@@ -81,12 +81,15 @@ fn mark_parts(id: RowId, row: &Row, marks: &mut Vec<bool>)
     match row {
         Row::Group { children } => mark(marks, children.as_slice()),
         Row::Choice { branches, .. } => mark(marks, branches.as_slice()),
+        Row::Dispatch { keys, .. } => mark_keys(marks, keys.as_slice()),
         Row::Separated { slots, .. } => mark_slots(marks, slots.as_slice()),
         Row::Scope { body, .. } => mark(marks, &[*body]),
         Row::Concluded { body, .. } => mark(marks, &[*body]),
         Row::Boxed { body, .. } => mark(marks, &[*body]),
         Row::PrefixedBox { body, .. } => mark(marks, &[*body]),
+        Row::MeasuredBox { body, .. } => mark(marks, &[*body]),
         Row::Repeat { body, .. } => mark(marks, &[*body]),
+        Row::Counted { body, .. } => mark(marks, &[*body]),
         Row::Optional { body, .. } => mark(marks, &[*body]),
         Row::Hidden { body } => mark(marks, &[*body]),
         _ => {}
@@ -110,5 +113,15 @@ fn mark_slots(marks: &mut Vec<bool>, slots: &[Slot])
 {
     for at in (0..slots.len()).rev() {
         marks[slots[at].body.number() as usize] = true;
+    }
+}
+
+// Marks the rows of keys.
+fn mark_keys(marks: &mut Vec<bool>, keys: &[Key])
+    requires { All (λ key. key.body < vec_len marks.old) keys.now }
+    ensures { marks.new.items ≡ marking.all_marked marks.old.items (keyed keys.now) }
+{
+    for at in (0..keys.len()).rev() {
+        marks[keys[at].body.number() as usize] = true;
     }
 }

@@ -3,7 +3,8 @@
 ghost use Rattle.std.specs.Prelude.{◌≡◌, ◌≤◌, IfOk, None, false};
 ghost use Rattle.dfdl_forms.specs.Types.{form_of};
 ghost use Rattle.dfdl_forms.specs.Binary.{most_bits};
-ghost use Rattle.dfdl_terms.specs.Rows.{HasElementLast, IsPrimitive};
+ghost use Rattle.dfdl_terms.specs.Rows.{HasElementLast, IsPrimitive, NamesWithin};
+ghost use Rattle.dfdl_terms.specs.Tables.{Named};
 ghost use Rattle.dfdl_terms.specs.declared.row.Row.TheVariants.{Elem, Group};
 
 use crate::{InfosetFault, OpenElements, events_of, events_of_json, line_of, name_of};
@@ -34,9 +35,10 @@ fn form(bits: u32, kind: Simple) -> Primitive
 }
 
 fn element(alloc: Global, name: &str, simple: Option<Simple>, body: u32) -> Result<Row, AllocError>
-    ensures { IfOk result (λ row. row
+    ensures row { IfOk result (λ row. row
         ≡ Elem name.now simple (record { nil = None; empty = None; refuses_empty = false; are_several = false })
         (record { first = 0; count = 0 }) body) }
+    ensures within { IfOk result (λ row. (named : Named) → NamesWithin named row) }
 {
     Ok(Row::Elem {
         name: TextValue::from_str(alloc, name)?,
@@ -53,7 +55,8 @@ fn element(alloc: Global, name: &str, simple: Option<Simple>, body: u32) -> Resu
 }
 
 fn group(alloc: Global, children: &[RowId]) -> Result<Row, AllocError>
-    ensures { IfOk result (λ row. row ≡ Group children.now) }
+    ensures row { IfOk result (λ row. row ≡ Group children.now) }
+    ensures within { IfOk result (λ row. (named : Named) → NamesWithin named row) }
 {
     Ok(Row::Group {
         children: RowList::new(Vec::from_slice(alloc, children)?),
@@ -67,17 +70,59 @@ const IN_BYTES: Prefix = Prefix {
     own: 0,
 };
 
+// The rows of the elements without elements inside.
+#[derive(Drop)]
+struct NumberRows {
+    x: Row,
+    y: Row,
+    b: Row,
+}
+
+fn numbers(alloc: Global) -> Result<NumberRows, AllocError>
+    ensures x { IfOk result (λ rows. (named : Named) → NamesWithin named rows.x) }
+    ensures y { IfOk result (λ rows. (named : Named) → NamesWithin named rows.y) }
+    ensures b { IfOk result (λ rows. (named : Named) → NamesWithin named rows.b) }
+{
+    let byte = Some(Simple::UnsignedByte);
+    Ok(NumberRows {
+        x: element(alloc, "x", byte, 0)?,
+        y: element(alloc, "y", byte, 0)?,
+        b: element(alloc, "b", byte, 7)?,
+    })
+}
+
+// The rows of groups: the one with y, that of a and that of r.
+#[derive(Drop)]
+struct GroupRows {
+    of_y: Row,
+    of_a: Row,
+    of_r: Row,
+}
+
+fn groups(alloc: Global) -> Result<GroupRows, AllocError>
+    ensures of_y { IfOk result (λ rows. (named : Named) → NamesWithin named rows.of_y) }
+    ensures of_a { IfOk result (λ rows. (named : Named) → NamesWithin named rows.of_a) }
+    ensures of_r { IfOk result (λ rows. (named : Named) → NamesWithin named rows.of_r) }
+{
+    Ok(GroupRows {
+        of_y: group(alloc, &[RowId::new(2)])?,
+        of_a: group(alloc, &[RowId::new(1), RowId::new(3)])?,
+        of_r: group(alloc, &[RowId::new(6), RowId::new(9), RowId::new(8)])?,
+    })
+}
+
 // The row 12 is the root element.
 fn nested(alloc: Global) -> Result<Terms, Fail>
     ensures { IfOk result HasElementLast }
 {
-    let byte = Some(Simple::UnsignedByte);
+    let numbers = numbers(alloc)?;
+    let groups = groups(alloc)?;
     let rows = vec![in alloc;
         Row::Leaf { prim: 0 },
-        element(alloc, "x", byte, 0)?,
-        element(alloc, "y", byte, 0)?,
-        group(alloc, &[RowId::new(2)])?,
-        group(alloc, &[RowId::new(1), RowId::new(3)])?,
+        numbers.x,
+        numbers.y,
+        groups.of_y,
+        groups.of_a,
         Row::Boxed {
             bits: 24,
             body: RowId::new(4)
@@ -87,9 +132,9 @@ fn nested(alloc: Global) -> Result<Terms, Fail>
             prefix: IN_BYTES,
             prim: 0
         },
-        element(alloc, "b", byte, 7)?,
+        numbers.b,
         Row::Skip { bits: 8 },
-        group(alloc, &[RowId::new(6), RowId::new(9), RowId::new(8)])?,
+        groups.of_r,
         Row::PrefixedBox {
             prefix: IN_BYTES,
             body: RowId::new(10)

@@ -11,7 +11,7 @@ use Rattle.dfdl_terms.specs.declared.row.Primitive.{Primitive}
 use Rattle.dfdl_delims.specs.Lists.{Opened}
 use Rattle.dfdl_terms.specs.declared.delimiters.Delimiters.{Delimiters}
 use Rattle.dfdl_terms.specs.declared.row.Row.{Row}
-use Rattle.dfdl_terms.specs.declared.row.Row.TheVariants.{Leaf, Elem, Group, Skip, Align, Initiator, Terminator, Separator, Scope, Boxed, PrefixedLeaf, PrefixedBox, Repeat, Optional, Choice, Statement, Concluded, Hidden, Separated}
+use Rattle.dfdl_terms.specs.declared.row.Row.TheVariants.{Leaf, Elem, Group, Skip, Align, Initiator, Terminator, Separator, Scope, Boxed, PrefixedLeaf, PrefixedBox, MeasuredLeaf, MeasuredBox, Repeat, Counted, Optional, Choice, Dispatch, Statement, Concluded, Hidden, Separated}
 use Rattle.dfdl_terms.specs.Rows.{Table}
 use Rattle.dfdl_looks.specs.Looks.{Agrees}
 use Rattle.dfdl_looks.specs.Asks.{Ask, AsksFrom, Reached, Told, TooFar, Missing, ask}
@@ -34,7 +34,7 @@ use Rattle.dfdl_grammar.specs.Framing.{aligned}
 use Rattle.dfdl_grammar.specs.Delimiters.{lists_of, markup, sought_among, stands_in}
 use Rattle.dfdl_grammar.specs.Elements.{begun, has_elements}
 use Rattle.dfdl_parse.specs.declared.frame.Frame.{Frame}
-use Rattle.dfdl_parse.specs.declared.frame.Frame.TheVariants.{Rest, Element, Box, Scope as ScopeFrame, Trial, Branch, Occurrence, Before, Content, Closing, Concluding}
+use Rattle.dfdl_parse.specs.declared.frame.Frame.TheVariants.{Rest, Element, Box, Scope as ScopeFrame, Trial, Branch, Occurrence, Times, Before, Content, Closing, Concluding}
 use Rattle.dfdl_parse.specs.declared.frame.Outside.{Outside}
 use Rattle.dfdl_parse.specs.declared.frame.Next.{Next}
 use Rattle.dfdl_parse.specs.declared.frame.Next.TheVariants as next
@@ -53,8 +53,9 @@ use Rattle.dfdl_parse.specs.Trials.{attempt, parts_of, refused, retry, trial_don
 use Rattle.dfdl_parse.specs.Points.{try_branch, try_occurrence}
 use Rattle.dfdl_parse.specs.Testing.{read_test}
 use Rattle.dfdl_parse.specs.Stating.{make_statement, with_behind}
+use Rattle.dfdl_parse.specs.Asking.{begins}
 use Rattle.dfdl_terms.specs.declared.statement.Statement.{Statement as AnyStatement}
-use Rattle.dfdl_terms.specs.declared.statement.Statement.TheVariants.{Pattern, Expression, Setting, Calculation}
+use Rattle.dfdl_terms.specs.declared.statement.Statement.TheVariants.{Pattern, Expression, Setting, Calculation, Question}
 use Rattle.dfdl_paths.specs.declared.place.Start.TheVariants.{At}
 use Rattle.dfdl_terms.specs.declared.statement.PatternTest.{PatternTest}
 use Rattle.dfdl_parse.proofs.TestSteps.{test-from}
@@ -333,6 +334,16 @@ module _ (held : Held) (s : State) where
   statement-keeps stands limits table id number (Some (Expression test)) k = pass-keeps one_row held _ _ _ refl refl
   statement-keeps stands limits table id number (Some (Setting setting)) k = pass-keeps one_row held _ _ _ refl refl
   statement-keeps stands limits table id number (Some (Calculation calculation)) k = pass-keeps one_row held _ _ _ refl refl
+  statement-keeps stands limits table id number (Some (Question question)) k = pass-keeps one_row held _ _ _ refl refl
+
+  -- a row that asks an expression
+  begins-keeps : (cost : Tally) → cost.tail ≡ 0 → cost.far ≡ 0 → (m : Machine) → Keeps held (begins cost held m)
+  begins-keeps cost no_tail no_far m = record {
+    slid = record { size = refl; ended = refl; end = refl; base = omega arith };
+    agrees = λ whole agrees. agrees;
+    tail = λ on. no_tail;
+    far = λ on. omega arith;
+  }
 
   passed-keeps : (body : ℕ) (initiated : Bool) (left : ℕ) (k : List Frame) (stays : Bool)
       → Keeps held (cond stays (pass nothing held (Leave Done) k (dropped s)) (try_occurrence nothing held body initiated left k (closed s)))
@@ -379,12 +390,7 @@ module _ (held : Held) (s : State) where
   enter-keeps stands limits table id (Some (Terminator delimiter separators)) k = delimiter-keeps (sought.Terminator delimiter.list separators) k (stands_in s.instead delimiter)
   enter-keeps stands limits table id (Some Separator) k = pass-keeps one_row held _ _ _ refl refl
   enter-keeps stands limits table id (Some (Scope list body)) k = pass-keeps one_row held _ _ _ refl refl
-  enter-keeps stands limits table id (Some (Boxed bits body)) k = record {
-    slid = record { size = refl; ended = refl; end = refl; base = omega arith };
-    agrees = λ whole agrees. agrees;
-    tail = λ on. refl;
-    far = λ on. omega arith;
-  }
+  enter-keeps stands limits table id (Some (Boxed bits body)) k = begins-keeps one_row refl refl _
   enter-keeps stands limits table id (Some (PrefixedLeaf prefix prim)) k =
       prefix-keeps stands limits table.delimiters id prefix.own (behind_units table.primitives prefix.unit (behind.Leaf (read_by table.primitives s.instead prim))) (slice_get table.primitives prefix.prim) k
   enter-keeps stands limits table id (Some (Repeat count body)) k = group-keeps id (replicate count body) k
@@ -392,6 +398,10 @@ module _ (held : Held) (s : State) where
   enter-keeps stands limits table id (Some (Choice rows initiated)) k = branch-keeps one_row refl refl id 0 (slice_get rows 0) k (pointed initiated s)
   enter-keeps stands limits table id (Some (PrefixedBox prefix body)) k =
       prefix-keeps stands limits table.delimiters id prefix.own (behind_units table.primitives prefix.unit (behind.Box body)) (slice_get table.primitives prefix.prim) k
+  enter-keeps stands limits table id (Some (MeasuredLeaf measure prim)) k = begins-keeps one_row refl refl _
+  enter-keeps stands limits table id (Some (MeasuredBox measure body)) k = begins-keeps one_row refl refl _
+  enter-keeps stands limits table id (Some (Counted question body)) k = begins-keeps one_row refl refl _
+  enter-keeps stands limits table id (Some (Dispatch question keys)) k = begins-keeps one_row refl refl _
   enter-keeps stands limits table id (Some (Statement number)) k = statement-keeps stands limits table id number (slice_get table.statements number) k
   enter-keeps stands limits table id (Some (Concluded statements body)) k = pass-keeps one_row held _ _ _ refl refl
   enter-keeps stands limits table id (Some (Hidden body)) k = pass-keeps one_row held _ _ _ refl refl
@@ -421,6 +431,8 @@ module _ (held : Held) (s : State) where
   leave-keeps limits table (Occurrence body initiated left) Done k = passed-keeps body initiated left k (stays_at s.marks s.at)
   leave-keeps limits table (Occurrence body initiated left) (Failed cause bit) k =
       failed-keeps (Failed cause bit) k _ (pass-keeps nothing held _ _ _ refl refl) (is_settled s.marks)
+  leave-keeps limits table (Times body left) Done k = begins-keeps nothing refl refl _
+  leave-keeps limits table (Times body left) (Failed cause bit) k = pass-keeps nothing held _ _ _ refl refl
   leave-keeps limits table (Before slot) Done k = passing-keeps nothing refl refl _ (done-passes held false k slot (slots_from table slot) s)
   leave-keeps limits table (Before slot) (Failed cause bit) k =
       passing-keeps nothing refl refl _ (failed-passes held (separation_at table slot).initiated k slot (slots_from table slot) (Failed cause bit) s)

@@ -13,7 +13,7 @@ use Rattle.dfdl_value.specs.declared.value.Value.{Value}
 use Rattle.dfdl_terms.specs.declared.row.Primitive.{Primitive}
 use Rattle.dfdl_grammar.specs.Leaves.{nil_values, read_by}
 use Rattle.dfdl_terms.specs.declared.row.Row.{Row}
-use Rattle.dfdl_terms.specs.declared.row.Row.TheVariants.{Leaf, Elem, Group, Skip, Align, Initiator, Terminator, Separator, Scope, Boxed, PrefixedLeaf, PrefixedBox, Repeat, Optional, Choice, Statement, Concluded, Hidden, Separated}
+use Rattle.dfdl_terms.specs.declared.row.Row.TheVariants.{Leaf, Elem, Group, Skip, Align, Initiator, Terminator, Separator, Scope, Boxed, PrefixedLeaf, PrefixedBox, MeasuredLeaf, MeasuredBox, Repeat, Counted, Optional, Choice, Dispatch, Statement, Concluded, Hidden, Separated}
 use Rattle.dfdl_terms.specs.Rows.{Table, Nests}
 use Rattle.dfdl_looks.specs.Looks.{seen_in}
 use Rattle.dfdl_looks.specs.Asks.{Answer, Reading}
@@ -40,7 +40,7 @@ use Rattle.dfdl_grammar.specs.Rows.{below, group, meaning, row}
 use Rattle.dfdl_grammar.proofs.Spending.{spend-nothing, spend-spend}
 use Rattle.dfdl_grammar.proofs.Towers.{below-meaning}
 use Rattle.dfdl_parse.specs.declared.frame.Frame.{Frame}
-use Rattle.dfdl_parse.specs.declared.frame.Frame.TheVariants.{Rest, Element, Box, Scope as ScopeFrame, Trial, Branch, Occurrence, Before, Content, Closing, Concluding}
+use Rattle.dfdl_parse.specs.declared.frame.Frame.TheVariants.{Rest, Element, Box, Scope as ScopeFrame, Trial, Branch, Occurrence, Times, Before, Content, Closing, Concluding}
 use Rattle.dfdl_parse.specs.declared.frame.Outside.{Outside}
 use Rattle.dfdl_parse.specs.declared.frame.Next.{Next}
 use Rattle.dfdl_parse.specs.declared.frame.Next.TheVariants as next
@@ -62,12 +62,13 @@ use Rattle.dfdl_parse.specs.Slots.{slots_from}
 use Rattle.dfdl_parse.proofs.SlotRows.{all-below, slots-below}
 use Rattle.dfdl_parse.proofs.SlotSteps.{before_done-ahead, before_failed-ahead, before_stopped-ahead, closing_done-ahead, closing_failed-ahead, closing_stopped-ahead, content_done-ahead, content_failed-ahead, content_stopped-ahead, look_behind-ahead, look_in-ahead, separated-ahead}
 use Rattle.dfdl_parse.proofs.PointSteps.{branch-ahead, failed-branch-ahead, failed-occurrence-ahead, first-ahead, passed-ahead}
+use Rattle.dfdl_parse.proofs.AskSteps.{counted-ahead, dispatch-ahead, measured_box-ahead, measured_leaf-ahead, time-ahead}
 use Rattle.dfdl_parse.proofs.SeekSteps.{delimiter-ahead, scope-ahead, seek-ahead, separator-ahead}
 use Rattle.dfdl_parse.proofs.LeafSteps.{Sees, box-ahead, leaf-of, prefix-of, sized-begin, sized-of}
 use Rattle.dfdl_parse.proofs.TestSteps.{test-ahead}
 use Rattle.dfdl_parse.specs.Stating.{behind_done, comes_to, make_statement, with_behind}
 use Rattle.dfdl_terms.specs.declared.statement.Statement.{Statement as AnyStatement}
-use Rattle.dfdl_terms.specs.declared.statement.Statement.TheVariants.{Pattern, Expression, Setting, Calculation}
+use Rattle.dfdl_terms.specs.declared.statement.Statement.TheVariants.{Pattern, Expression, Setting, Calculation, Question}
 use Rattle.dfdl_terms.specs.declared.statement.Statements.{Statements}
 use Rattle.dfdl_paths.specs.declared.place.Start.{Start}
 use Rattle.dfdl_paths.specs.declared.place.Start.TheVariants.{At, Inside}
@@ -153,9 +154,13 @@ module _ (input : Input) (table : Table) where
   body-below nests id parts (Some (Boxed bits body)) is told = absurd (cc)
   body-below nests id parts (Some (PrefixedLeaf prefix prim)) is told = absurd (cc)
   body-below nests id parts (Some (PrefixedBox prefix body)) is told = absurd (cc)
+  body-below nests id parts (Some (MeasuredLeaf measure prim)) is told = absurd (cc)
+  body-below nests id parts (Some (MeasuredBox measure body)) is told = absurd (cc)
   body-below nests id parts (Some (Repeat count body)) is told = absurd (cc)
+  body-below nests id parts (Some (Counted question body)) is told = absurd (cc)
   body-below nests id parts (Some (Optional most item initiated body)) is told = absurd (cc)
   body-below nests id parts (Some (Choice rows initiated)) is told = absurd (cc)
+  body-below nests id parts (Some (Dispatch question keys)) is told = absurd (cc)
   body-below nests id parts (Some (Statement number)) is told = absurd (cc)
   body-below nests id parts (Some (Concluded statements body)) is told = absurd (cc)
   body-below nests id parts (Some (Hidden body)) is told = absurd (cc)
@@ -391,6 +396,7 @@ module _ (input : Input) (table : Table) where
   statement-ahead held id number (Some (Setting setting)) k s sees going = stated-ahead held (Inside s.inside) number (Some (Setting setting)) k s
   statement-ahead held id number (Some (Calculation calculation)) k s sees going =
       stated-ahead held (At s.inside) number (Some (Calculation calculation)) k s
+  statement-ahead held id number (Some (Question question)) k s sees going = stated-ahead held (Inside s.inside) number (Some (Question question)) k s
 
   -- the window shows the data at a leaf
   sees : {focus : Focus} (held : Held) (s : State) → Anchored held s → Fits held input focus s → Sees held input s
@@ -411,10 +417,14 @@ module _ (input : Input) (table : Table) where
   children-below nests id (Some (Boxed bits body)) is = λ i row less. absurd (omega arith)
   children-below nests id (Some (PrefixedLeaf prefix prim)) is = λ i row less. absurd (omega arith)
   children-below nests id (Some (PrefixedBox prefix body)) is = λ i row less. absurd (omega arith)
+  children-below nests id (Some (MeasuredLeaf measure prim)) is = λ i row less. absurd (omega arith)
+  children-below nests id (Some (MeasuredBox measure body)) is = λ i row less. absurd (omega arith)
   children-below nests id (Some (Repeat count body)) is =
       All-replicate (λ c. c < id) count body (nests id (Repeat count body) (slice_get_within table.rows id (Repeat count body) is) is)
+  children-below nests id (Some (Counted question body)) is = λ i row less. absurd (omega arith)
   children-below nests id (Some (Optional most item initiated body)) is = λ i row less. absurd (omega arith)
   children-below nests id (Some (Choice rows initiated)) is = nests id (Choice rows initiated) (slice_get_within table.rows id (Choice rows initiated) is) is
+  children-below nests id (Some (Dispatch question keys)) is = λ i row less. absurd (omega arith)
   children-below nests id (Some (Statement number)) is = λ i row less. absurd (omega arith)
   children-below nests id (Some (Concluded statements body)) is = λ i row less. absurd (omega arith)
   children-below nests id (Some (Hidden body)) is = λ i row less. absurd (omega arith)
@@ -471,6 +481,16 @@ module _ (input : Input) (table : Table) where
       (λ units at. box-ahead input table id (bits_of_units prefix.unit units) body k (record s { at = at }) less
       (nat_le (at + bits_of_units prefix.unit units) s.stop))
       held (slice_get table.primitives prefix.prim) (sees held s fits.stands fits) going
+  enter-ahead nests held id (Some (MeasuredLeaf measure prim)) k s is fits going =
+      measured_leaf-ahead input table held measure (read_by table.primitives s.instead prim) k s
+  enter-ahead nests held id (Some (MeasuredBox measure body)) k s is fits going =
+      let less : body < id = nests id (MeasuredBox measure body) (slice_get_within table.rows id (MeasuredBox measure body) is) is in
+      measured_box-ahead input table held id measure body k s less
+  enter-ahead nests held id (Some (Counted question body)) k s is fits going =
+      let less : body < id = nests id (Counted question body) (slice_get_within table.rows id (Counted question body) is) is in
+      counted-ahead input table held id question body k s less
+  enter-ahead nests held id (Some (Dispatch question keys)) k s is fits going =
+      dispatch-ahead input table held id question keys k s (nests id (Dispatch question keys) (slice_get_within table.rows id (Dispatch question keys) is) is)
   enter-ahead nests held id (Some (Statement number)) k s is fits going =
       statement-ahead held id number (slice_get table.statements number) k s (sees held s fits.stands fits) going
   enter-ahead nests held id (Some (Concluded statements body)) k s is fits going =
@@ -535,6 +555,9 @@ module _ (input : Input) (table : Table) where
   leave-ahead nests held (Occurrence body initiated left) Done k s = passed-ahead input table held body initiated left k s (stays_at s.marks s.at)
   leave-ahead nests held (Occurrence body initiated left) (Failed cause bit) k s = failed-occurrence-ahead input table held cause bit k s (is_settled s.marks)
   leave-ahead nests held (Occurrence body initiated left) (Stopped cause quantity) k s = after_nothing input table k (ended (Stopped cause quantity) s)
+  leave-ahead nests held (Times body left) Done k s = time-ahead input table held body left k s
+  leave-ahead nests held (Times body left) (Failed cause bit) k s = after_nothing input table k (ended (Failed cause bit) s)
+  leave-ahead nests held (Times body left) (Stopped cause quantity) k s = after_nothing input table k (ended (Stopped cause quantity) s)
   leave-ahead nests held (Before slot) Done k s = before_done-ahead input table held slot k s (slots_from table slot) refl (slots-below table nests slot)
   leave-ahead nests held (Before slot) (Failed cause bit) k s =
       before_failed-ahead input table held slot k s cause bit (slots_from table slot) refl (slots-below table nests slot)

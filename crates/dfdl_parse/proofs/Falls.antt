@@ -1,5 +1,5 @@
 -- Each step leaves less to be done.
-use Rattle.std.proofs.Common.{◌≡◌, ℕ, ◌+◌, ◌-◌, ◌*◌, ◌/◌, ◌<◌, ◌≤◌, min, nat_eq, nat_le, refl, List, [], ◌∷◌, length, Bool, true, false, cond, nat_lt, Option, Some, None, ap, arith, replicate}
+use Rattle.std.proofs.Common.{◌≡◌, ℕ, suc, ◌+◌, ◌-◌, ◌*◌, ◌/◌, ◌<◌, ◌≤◌, min, nat_eq, nat_le, refl, List, [], ◌∷◌, length, Bool, true, false, cond, nat_lt, Option, Some, None, ap, arith, replicate}
 use Rattle.std.specs.Prelude.{slice_get}
 use Rattle.dfdl_bits.specs.Window.{Held, end_of, from_byte, seen_at}
 use Rattle.dfdl_bits.specs.declared.window.Seen.{Seen}
@@ -12,7 +12,7 @@ use Rattle.dfdl_terms.specs.declared.delimiters.Delimiters.{Delimiters}
 use Rattle.dfdl_terms.specs.declared.row.Primitive.{Primitive}
 use Rattle.dfdl_delims.specs.Longest.{Longest}
 use Rattle.dfdl_terms.specs.declared.row.Row.{Row}
-use Rattle.dfdl_terms.specs.declared.row.Row.TheVariants.{Leaf, Elem, Group, Skip, Align, Initiator, Terminator, Separator, Scope, Boxed, PrefixedLeaf, PrefixedBox, Repeat, Optional, Choice, Statement, Concluded, Hidden, Separated}
+use Rattle.dfdl_terms.specs.declared.row.Row.TheVariants.{Leaf, Elem, Group, Skip, Align, Initiator, Terminator, Separator, Scope, Boxed, PrefixedLeaf, PrefixedBox, MeasuredLeaf, MeasuredBox, Repeat, Counted, Optional, Choice, Dispatch, Statement, Concluded, Hidden, Separated}
 use Rattle.dfdl_terms.specs.Rows.{Table, Nests}
 use Rattle.dfdl_looks.specs.Asks.{Reached, Told, TooFar, Missing, Reading, ask}
 use Rattle.dfdl_looks.specs.Tallies.{Tally, needs_from, nothing, one_row, saw_byte}
@@ -35,7 +35,7 @@ use Rattle.dfdl_grammar.specs.Boxes.{boxed_at}
 use Rattle.dfdl_grammar.specs.Delimiters.{lists_of, markup, sought_among, stands_in}
 use Rattle.dfdl_grammar.specs.Elements.{begun, has_elements}
 use Rattle.dfdl_parse.specs.declared.frame.Frame.{Frame}
-use Rattle.dfdl_parse.specs.declared.frame.Frame.TheVariants.{Rest, Element, Box, Scope as ScopeFrame, Trial, Branch, Occurrence, Before, Content, Closing, Concluding}
+use Rattle.dfdl_parse.specs.declared.frame.Frame.TheVariants.{Rest, Element, Box, Scope as ScopeFrame, Trial, Branch, Occurrence, Times, Before, Content, Closing, Concluding}
 use Rattle.dfdl_parse.specs.declared.frame.Outside.{Outside}
 use Rattle.dfdl_parse.specs.declared.frame.Next.{Next}
 use Rattle.dfdl_parse.specs.declared.frame.Next.TheVariants as next
@@ -55,9 +55,10 @@ use Rattle.dfdl_parse.specs.Points.{try_branch, try_occurrence}
 use Rattle.dfdl_parse.specs.Testing.{is_unknown, landed_test, read_test, verdict_in}
 use Rattle.dfdl_parse.specs.Stating.{make_statement, with_behind}
 use Rattle.dfdl_terms.specs.declared.statement.Statement.{Statement as AnyStatement}
-use Rattle.dfdl_terms.specs.declared.statement.Statement.TheVariants.{Pattern, Expression, Setting, Calculation}
+use Rattle.dfdl_terms.specs.declared.statement.Statement.TheVariants.{Pattern, Expression, Setting, Calculation, Question}
 use Rattle.dfdl_paths.specs.declared.place.Start.TheVariants.{At, Inside}
 use Rattle.dfdl_parse.proofs.Stated.{few-behind}
+use Rattle.dfdl_parse.proofs.Asked.{counted-has, dispatch-has, measured-has, times-have}
 use Rattle.dfdl_terms.specs.declared.statement.PatternTest.{PatternTest}
 use Rattle.dfdl_texts.specs.Texts.{Text}
 use Rattle.dfdl_grammar.specs.Leaves.{text_sought}
@@ -167,6 +168,19 @@ box-begun-falls : (bits body : ℕ) (k : List Frame) (s : State) (inside : Bool)
     → left_of (cond inside (record { focus = Enter body; stack = Box (outside s) ∷ k; state = boxed_at (s.at + bits) s }) (at_end (Failed LengthOutOfRange s.at) k s)) ≤ 3 * length k + 4
 box-begun-falls bits body k s true = omega arith
 box-begun-falls bits body k s false = omega arith
+
+-- so do rows that ask an expression
+abbrev HasFew : List Frame → Machine → Type 0
+HasFew k m = left_of m ≤ 3 * length k + 4
+
+ended-falls : (k : List Frame) → 3 * length k + 3 ≤ 3 * length k + 4
+ended-falls k = omega arith
+
+time-falls : (k : List Frame) → 3 * suc (length k) + 0 ≤ 3 * length k + 4
+time-falls k = omega arith
+
+row-falls : (k : List Frame) → 3 * length k + 0 ≤ 3 * length k + 4
+row-falls k = omega arith
 
 module _ (limits : Limits) (delimiters : List Delimiters) (id own : ℕ) (next : ℕ → List Frame → State → Machine) (k : List Frame)
     (few : (units : ℕ) (s : State) → left_of (next units k s) ≤ 3 * length k + 4) where
@@ -304,6 +318,7 @@ statement-falls limits table held id number (Some (Pattern test)) k s going = te
 statement-falls limits table held id number (Some (Expression test)) k s going = omega arith
 statement-falls limits table held id number (Some (Setting setting)) k s going = omega arith
 statement-falls limits table held id number (Some (Calculation calculation)) k s going = omega arith
+statement-falls limits table held id number (Some (Question question)) k s going = omega arith
 
 passed-falls : (held : Held) (body : ℕ) (initiated : Bool) (left : ℕ) (k : List Frame) (s : State) (stays : Bool)
     → Falls (Leave Done) (Occurrence body initiated left ∷ k)
@@ -396,6 +411,22 @@ enter-falls limits table held id (Some (PrefixedBox prefix body)) k s going =
     prefix-falls limits table.delimiters id prefix.own (behind_units table.primitives prefix.unit (behind.Box body)) k
     (λ units after. box-begun-falls (bits_of_units prefix.unit units) body k after (nat_le (after.at + bits_of_units prefix.unit units) after.stop))
     held (slice_get table.primitives prefix.prim) s
+enter-falls limits table held id (Some (MeasuredLeaf by prim)) k s going =
+    let own : ℕ = read_by table.primitives s.instead prim in
+    let few = measured-has (HasFew k) table k s (λ variables why. ended-falls k) by (behind.Leaf own)
+    (λ variables units. begun-falls own (size_of by.unit units) (slice_get table.primitives own) k (record s { variables = variables })) in
+    omega arith
+enter-falls limits table held id (Some (MeasuredBox by body)) k s going =
+    let few = measured-has (HasFew k) table k s (λ variables why. ended-falls k) by (behind.Box body)
+    (λ variables units. box-begun-falls (bits_of_units by.unit units) body k (record s { variables = variables })
+    (nat_le (s.at + bits_of_units by.unit units) s.stop)) in
+    omega arith
+enter-falls limits table held id (Some (Counted question body)) k s going =
+    let few = counted-has (HasFew k) table k s (λ variables why. ended-falls k) question body (λ variables. ended-falls k) (λ variables left. time-falls k) in
+    omega arith
+enter-falls limits table held id (Some (Dispatch question keys)) k s going =
+    let few = dispatch-has (HasFew k) table k s (λ variables why. ended-falls k) question keys (λ variables row. row-falls k) in
+    omega arith
 enter-falls limits table held id (Some (Statement number)) k s going = statement-falls limits table held id number (slice_get table.statements number) k s going
 enter-falls limits table held id (Some (Concluded statements body)) k s going = let few = few-behind statements (Inside s.inside) k in omega arith
 enter-falls limits table held id (Some (Hidden body)) k s going = omega arith
@@ -427,6 +458,9 @@ leave-falls limits table held (Branch id next) (Failed cause bit) k s =
 leave-falls limits table held (Occurrence body initiated left) Done k s = passed-falls held body initiated left k s (stays_at s.marks s.at)
 leave-falls limits table held (Occurrence body initiated left) (Failed cause bit) k s =
     failed-falls held (Occurrence body initiated left) (Failed cause bit) k s (pass nothing held (Leave Done) k (dropped s)) (omega arith) (is_settled s.marks)
+leave-falls limits table held (Times body left) Done k s =
+    let few = times-have (HasFew k) body k s (ended-falls k) (λ more. time-falls k) left in omega arith
+leave-falls limits table held (Times body left) (Failed cause bit) k s = omega arith
 leave-falls limits table held (Before slot) Done k s =
     let bound : ℕ = 3 * length (Before slot ∷ k) + mode (Leave Done) in
     done-has (HasFallen bound) Any held false k (λ here t any. tt) (slot-ways nothing held k bound (omega arith)) slot s tt (λ here. tt) (slots_from table slot)

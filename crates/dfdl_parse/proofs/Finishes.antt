@@ -1,5 +1,5 @@
 -- What is ahead of a machine, behind a cost.
-use Rattle.std.proofs.Common.{◌≡◌, ℕ, ◌-◌, ◌*◌, ◌/◌, ◌+◌, ◌<◌, ◌≤◌, nat_le, refl, List, [], ◌∷◌, length, drop, Bool, true, false, cond, Option, Some, None, ap, sym, ◌∙◌}
+use Rattle.std.proofs.Common.{◌≡◌, ℕ, ◌-◌, ◌*◌, ◌/◌, ◌+◌, ◌<◌, ◌≤◌, nat_le, refl, List, [], ◌∷◌, length, drop, replicate, Bool, true, false, cond, Option, Some, None, ap, sym, ◌∙◌}
 use Rattle.std.specs.Prelude.{slice_get}
 use Rattle.dfdl_bits.specs.Window.{Held, end_of}
 use Rattle.dfdl_report.specs.declared.cause.LimitCause.TheVariants.{Text as TextLimit}
@@ -25,7 +25,7 @@ use Rattle.dfdl_grammar.specs.Representations.{after_empty, or_else, refuse, ref
 use Rattle.dfdl_grammar.specs.Rows.{below, group, meaning}
 use Rattle.dfdl_grammar.proofs.Spending.{spend-nothing, spend-spend, follow-spend, close-spend}
 use Rattle.dfdl_parse.specs.declared.frame.Frame.{Frame}
-use Rattle.dfdl_parse.specs.declared.frame.Frame.TheVariants.{Rest, Element, Box, Scope as ScopeFrame, Trial, Branch, Occurrence, Before, Content, Closing, Concluding}
+use Rattle.dfdl_parse.specs.declared.frame.Frame.TheVariants.{Rest, Element, Box, Scope as ScopeFrame, Trial, Branch, Occurrence, Times, Before, Content, Closing, Concluding}
 use Rattle.dfdl_terms.specs.declared.statement.Statements.{Statements}
 use Rattle.dfdl_paths.specs.declared.place.Start.{Start}
 use Rattle.dfdl_grammar.specs.Statements.{concluded_at}
@@ -183,6 +183,7 @@ module _ (input : Input) (table : Table) where
   resume-spend (Trial id next) t o = retried-spend id (parts_of (slice_get table.rows id)) next t o
   resume-spend (Branch id next) t o = branch-spend o.end t o (branches (below input table id) (drop next (children_of (slice_get table.rows id))))
   resume-spend (Occurrence body initiated left) t o = occurrence-spend o.end t o (occurrences (meaning input table body) initiated left)
+  resume-spend (Times body left) t o = follow-spend o.end t o (group (meaning input table) (replicate left body))
   resume-spend (Before slot) t o = before_slot-spend (sequence_of input table slot.sequence) slot (slots_from table slot) t o
   resume-spend (Content slot bit empty) t o = content_slot-spend (sequence_of input table slot.sequence) slot bit empty (slots_from table slot) t o
   resume-spend (Closing slot bit) t o = closing_slot-spend (sequence_of input table slot.sequence) slot bit (slots_from table slot) t o

@@ -35,6 +35,7 @@ use Rattle.dfdl_parse.specs.Searches.{among, place_of, search, search_move}
 use Rattle.dfdl_parse.specs.Machines.{enter, enter_box}
 use Rattle.dfdl_terms.specs.declared.statement.Statements.{Statements}
 use Rattle.dfdl_paths.specs.declared.place.Start.TheVariants.{Inside}
+use Rattle.dfdl_parse.specs.Asking.{begins}
 use Rattle.dfdl_parse.specs.Stating.{make_statement, with_behind}
 use Rattle.dfdl_parse.specs.Prefixed.{behind_units, box_begins, read_resized, read_sized, sized_begins}
 use Rattle.dfdl_separators.specs.declared.policy.SeparatorPosition.{SeparatorPosition}
@@ -193,6 +194,15 @@ module _ (limits : Limits) (table : Table) (held : Held) (id : ℕ) (r : Row) (k
       let row_is : slice_get table.rows id ≡ Some (Concluded statements body) = at ∙ ap (λ (x : Row). Some x) is in
       subst (λ (o : Option Row). Moved (enter limits table held id o k s) false far new held looks) (sym row_is)
       (subst (λ (n : ℕ). Moved (pass one_row held (Enter body) (with_behind statements (Inside s.inside) k) s) false far new held n) (sym none) moved)
+
+  -- a row that asks an expression is entered
+  pub asking-entered : (row : Row) (m : Machine) (looks : ℕ) → r ≡ row → enter limits table held id (Some row) k s ≡ begins one_row held m → looks ≡ 0
+      → Moved (begins one_row held m) false far new held 0 → Moved (enter limits table held id (slice_get table.rows id) k s) false far new held looks
+  asking-entered row m looks is step none moved =
+      let row_is : slice_get table.rows id ≡ Some row = at ∙ ap (λ (x : Row). Some x) is in
+      subst (λ (o : Option Row). Moved (enter limits table held id o k s) false far new held looks) (sym row_is)
+      (subst (λ (n : ℕ). Moved (enter limits table held id (Some row) k s) false far new held n) (sym none)
+      (subst (λ (move : Move). Moved move false far new held 0) (sym step) moved))
 
   -- a sequence with separators is entered
   pub separated-entered : (policy : SeparatorSuppressionPolicy) (position : SeparatorPosition) (initiated : Bool) (slots : List Slot) (looks : ℕ)

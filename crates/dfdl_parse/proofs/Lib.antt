@@ -4,6 +4,7 @@ pub mod Innermost
 pub mod Resolved
 pub mod Stated
 pub mod Statings
+pub mod Asked
 pub mod Beyond
 pub mod Lists
 pub mod Finishes
@@ -12,6 +13,7 @@ pub mod SeekLies
 pub mod SeekSteps
 pub mod LeafSteps
 pub mod PointSteps
+pub mod AskSteps
 pub mod SlotMoves
 pub mod SlotRows
 pub mod SlotAsks

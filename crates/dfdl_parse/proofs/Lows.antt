@@ -13,7 +13,7 @@ use Rattle.dfdl_terms.specs.declared.delimiters.Delimiters.{Delimiters}
 use Rattle.dfdl_terms.specs.declared.row.Primitive.{Primitive}
 use Rattle.dfdl_delims.specs.Longest.{Longest, Text, NoText}
 use Rattle.dfdl_terms.specs.declared.row.Row.{Row}
-use Rattle.dfdl_terms.specs.declared.row.Row.TheVariants.{Leaf, Elem, Group, Skip, Align, Initiator, Terminator, Separator, Scope, Boxed, PrefixedLeaf, PrefixedBox, Repeat, Optional, Choice, Statement, Concluded, Hidden, Separated}
+use Rattle.dfdl_terms.specs.declared.row.Row.TheVariants.{Leaf, Elem, Group, Skip, Align, Initiator, Terminator, Separator, Scope, Boxed, PrefixedLeaf, PrefixedBox, MeasuredLeaf, MeasuredBox, Repeat, Counted, Optional, Choice, Dispatch, Statement, Concluded, Hidden, Separated}
 use Rattle.dfdl_terms.specs.Rows.{Table}
 use Rattle.dfdl_looks.specs.Asks.{Reached, Told, TooFar, Missing, ask}
 use Rattle.dfdl_looks.specs.Tallies.{Tally, needs_from, nothing, one_row, saw_byte}
@@ -36,7 +36,7 @@ use Rattle.dfdl_grammar.specs.Boxes.{boxed_at}
 use Rattle.dfdl_grammar.specs.Delimiters.{lists_of, markup, opens, passed_text, sought_among, stands_in}
 use Rattle.dfdl_grammar.specs.Elements.{begun, has_elements}
 use Rattle.dfdl_parse.specs.declared.frame.Frame.{Frame}
-use Rattle.dfdl_parse.specs.declared.frame.Frame.TheVariants.{Rest, Element, Box, Scope as ScopeFrame, Trial, Branch, Occurrence, Before, Content, Closing, Concluding}
+use Rattle.dfdl_parse.specs.declared.frame.Frame.TheVariants.{Rest, Element, Box, Scope as ScopeFrame, Trial, Branch, Occurrence, Times, Before, Content, Closing, Concluding}
 use Rattle.dfdl_parse.specs.declared.frame.Outside.{Outside}
 use Rattle.dfdl_parse.specs.declared.frame.Next.{Next}
 use Rattle.dfdl_parse.specs.declared.frame.Next.TheVariants as next
@@ -57,7 +57,7 @@ use Rattle.dfdl_parse.specs.Points.{try_branch, try_occurrence}
 use Rattle.dfdl_parse.specs.Testing.{landed_test, read_test, verdict_in}
 use Rattle.dfdl_parse.specs.Stating.{behind_done, make_statement, with_behind}
 use Rattle.dfdl_terms.specs.declared.statement.Statement.{Statement as AnyStatement}
-use Rattle.dfdl_terms.specs.declared.statement.Statement.TheVariants.{Pattern, Expression, Setting, Calculation}
+use Rattle.dfdl_terms.specs.declared.statement.Statement.TheVariants.{Pattern, Expression, Setting, Calculation, Question}
 use Rattle.dfdl_terms.specs.declared.statement.Statements.{Statements}
 use Rattle.dfdl_paths.specs.declared.place.Start.{Start}
 use Rattle.dfdl_paths.specs.declared.place.Start.TheVariants.{At, Inside}
@@ -66,6 +66,7 @@ use Rattle.dfdl_vars.specs.Kept.{Kept}
 use Rattle.dfdl_grammar.specs.declared.end.Halt.{Halt}
 use Rattle.dfdl_grammar.specs.Statements.{reconsidered_from, stated}
 use Rattle.dfdl_parse.proofs.Stated.{all-again, behind-comes, stated-comes}
+use Rattle.dfdl_parse.proofs.Asked.{counted-has, dispatch-has, measured-has, times-have}
 use Rattle.dfdl_parse.proofs.Resolved.{sought-comes, tested-comes}
 use Rattle.dfdl_terms.specs.declared.statement.PatternTest.{PatternTest}
 use Rattle.dfdl_parse.proofs.Beyond.{beyond-byte}
@@ -241,6 +242,8 @@ statement-low limits table held id number (Some (Setting setting)) k s stands lo
     stated-low held.base k limits table (Inside s.inside) number (Some (Setting setting)) s (low, opens)
 statement-low limits table held id number (Some (Calculation calculation)) k s stands low opens =
     stated-low held.base k limits table (At s.inside) number (Some (Calculation calculation)) s (low, opens)
+statement-low limits table held id number (Some (Question question)) k s stands low opens =
+    stated-low held.base k limits table (Inside s.inside) number (Some (Question question)) s (low, opens)
 
 -- the statements behind a component go back to no mark
 behind-open : (base at : ℕ) (marks : List Mark) (statements : Statements) (start : Start) (k : List Frame) → AreOpen base at k marks
@@ -444,6 +447,18 @@ module _ (held : Held) (s : State) where
   enter-low limits table id (Some (PrefixedBox prefix body)) k stands low opens =
       prefix-low limits table.delimiters id prefix.own (behind_units table.primitives prefix.unit (behind.Box body)) (slice_get table.primitives prefix.prim) k stands opens
       (λ units after is still. box-begun-low (anchor s) (bits_of_units prefix.unit units) body k after is still (nat_le (after.at + bits_of_units prefix.unit units) after.stop))
+  enter-low limits table id (Some (MeasuredLeaf measure prim)) k stands low opens =
+      let by : ℕ = read_by table.primitives s.instead prim in
+      measured-has (IsLowFrom held.base) table k s (λ variables why. opens) measure (behind.Leaf by)
+      (λ variables units. sized-low held.base by (size_of measure.unit units) (slice_get table.primitives by) k (record s { variables = variables }) low opens)
+  enter-low limits table id (Some (MeasuredBox measure body)) k stands low opens =
+      measured-has (IsLowFrom held.base) table k s (λ variables why. opens) measure (behind.Box body)
+      (λ variables units. box-begun-low held.base (bits_of_units measure.unit units) body k (record s { variables = variables }) low opens
+      (nat_le (s.at + bits_of_units measure.unit units) s.stop))
+  enter-low limits table id (Some (Counted question body)) k stands low opens =
+      counted-has (IsLowFrom held.base) table k s (λ variables why. opens) question body (λ variables. (low, opens)) (λ variables left. (low, opens))
+  enter-low limits table id (Some (Dispatch question keys)) k stands low opens =
+      dispatch-has (IsLowFrom held.base) table k s (λ variables why. opens) question keys (λ variables row. (low, opens))
   enter-low limits table id (Some (Statement number)) k stands low opens =
       statement-low limits table held id number (slice_get table.statements number) k s stands low opens
   enter-low limits table id (Some (Concluded statements body)) k stands low opens =
@@ -480,6 +495,8 @@ module _ (held : Held) (s : State) where
   leave-low limits table (Occurrence body initiated left) Done k needs = passed-low held body initiated left k s needs.0 needs.1 (stays_at s.marks s.at) refl
   leave-low limits table (Occurrence body initiated left) (Failed cause bit) k needs =
       occurrence-failed-low held cause bit k s needs (is_settled s.marks) refl
+  leave-low limits table (Times body left) Done k needs = times-have (IsLowFrom held.base) body k s needs (λ more. needs) left
+  leave-low limits table (Times body left) (Failed cause bit) k needs = needs
   leave-low limits table (Before slot) Done k needs =
       before_done-low held slot k s (record { such = needs.1.0; lies = needs.1.1.1 }) needs.1.1.0.0 needs.0 (slots_from table slot)
   leave-low limits table (Before slot) (Failed cause bit) k needs =

@@ -13,7 +13,7 @@ use Rattle.dfdl_grammar.specs.Slots.{has_mark, is_tried, opens_before}
 use Rattle.dfdl_grammar.specs.Framing.{aligned}
 use Rattle.dfdl_grammar.specs.States.{State, held_from}
 use Rattle.dfdl_parse.specs.declared.frame.Frame.{Frame}
-use Rattle.dfdl_parse.specs.declared.frame.Frame.TheVariants.{Rest, Element, Box, Scope as ScopeFrame, Trial, Branch, Occurrence, Before, Content, Closing, Concluding}
+use Rattle.dfdl_parse.specs.declared.frame.Frame.TheVariants.{Rest, Element, Box, Scope as ScopeFrame, Trial, Branch, Occurrence, Times, Before, Content, Closing, Concluding}
 use Rattle.dfdl_parse.specs.declared.frame.Focus.{Focus}
 use Rattle.dfdl_parse.specs.declared.frame.Focus.TheVariants.{Enter, Pass, PassRest, Sized, Seek, LookIn, LookBehind, Leave}
 use Rattle.dfdl_parse.specs.Opens.{AreNested, AreOpen, AreSuch, ComesBackIn, GoesBack, Holds, IsBefore, IsContent, Lie, NeedsBehind, NeedsFrom, before_at, first_at, outside_before, outside_slot, points_of, slot_at}
@@ -98,6 +98,7 @@ lie-later at bit (Element outer complex ∷ k) marks less lies = lie-later at bi
 lie-later at bit (Box outer ∷ k) marks less lies = lie-later at bit k marks less lies
 lie-later at bit (ScopeFrame count ∷ k) marks less lies = lie-later at bit k marks less lies
 lie-later at bit (Concluding statements start ∷ k) marks less lies = lie-later at bit k marks less lies
+lie-later at bit (Times body left ∷ k) marks less lies = lie-later at bit k marks less lies
 lie-later at bit (Trial id next ∷ k) marks less lies =
     lie-later (first_at marks at) (first_at marks bit) k (outer_marks marks) (first-later at bit marks less) lies
 lie-later at bit (Branch id next ∷ k) marks less lies =
@@ -176,6 +177,7 @@ resolved-lie at (Element outer complex ∷ k) marks lies = resolved-lie at k mar
 resolved-lie at (Box outer ∷ k) marks lies = resolved-lie at k marks lies
 resolved-lie at (ScopeFrame count ∷ k) marks lies = resolved-lie at k marks lies
 resolved-lie at (Concluding statements start ∷ k) marks lies = resolved-lie at k marks lies
+resolved-lie at (Times body left ∷ k) marks lies = resolved-lie at k marks lies
 resolved-lie at (Trial id next ∷ k) marks lies = one-resolved at k marks (λ ms bit. resolved-lie bit k ms) lies
 resolved-lie at (Branch id next ∷ k) marks lies = one-resolved at k marks (λ ms bit. resolved-lie bit k ms) lies
 resolved-lie at (Occurrence body initiated left ∷ k) marks lies = one-resolved at k marks (λ ms bit. resolved-lie bit k ms) lies
@@ -404,6 +406,7 @@ comes-back at (Element outer complex ∷ k) marks lies = tt
 comes-back at (Box outer ∷ k) marks lies = tt
 comes-back at (ScopeFrame count ∷ k) marks lies = tt
 comes-back at (Concluding statements start ∷ k) marks lies = tt
+comes-back at (Times body left ∷ k) marks lies = tt
 comes-back at (Trial id next ∷ k) marks lies = tt
 comes-back at (Branch id next ∷ k) marks lies = tt
 comes-back at (Occurrence body initiated left ∷ k) marks lies = tt

@@ -14,7 +14,7 @@ use Rattle.dfdl_delims.specs.Longest.{Longest, Text, NoText}
 use Rattle.dfdl_terms.specs.declared.delimiters.Delimiters.{Delimiters}
 use Rattle.dfdl_terms.specs.declared.row.Primitive.{Primitive}
 use Rattle.dfdl_terms.specs.declared.row.Row.{Row}
-use Rattle.dfdl_terms.specs.declared.row.Row.TheVariants.{Leaf, Elem, Group, Skip, Align, Initiator, Terminator, Separator, Scope, Boxed, PrefixedLeaf, PrefixedBox, Repeat, Optional, Choice, Statement, Concluded, Hidden, Separated}
+use Rattle.dfdl_terms.specs.declared.row.Row.TheVariants.{Leaf, Elem, Group, Skip, Align, Initiator, Terminator, Separator, Scope, Boxed, PrefixedLeaf, PrefixedBox, MeasuredLeaf, MeasuredBox, Repeat, Counted, Optional, Choice, Dispatch, Statement, Concluded, Hidden, Separated}
 use Rattle.dfdl_terms.specs.Rows.{Table}
 use Rattle.dfdl_terms.specs.declared.prefix.LengthUnit.{LengthUnit}
 use Rattle.dfdl_terms.specs.declared.text.TextSize.{TextSize}
@@ -39,7 +39,7 @@ use Rattle.dfdl_grammar.specs.Delimiters.{lists_of, markup, opens, passed_text, 
 use Rattle.dfdl_grammar.specs.Boxes.{boxed_at}
 use Rattle.dfdl_grammar.specs.Elements.{begun, has_elements}
 use Rattle.dfdl_parse.specs.declared.frame.Frame.{Frame}
-use Rattle.dfdl_parse.specs.declared.frame.Frame.TheVariants.{Rest, Element, Box, Scope as ScopeFrame, Trial, Branch, Occurrence, Before, Content, Closing, Concluding}
+use Rattle.dfdl_parse.specs.declared.frame.Frame.TheVariants.{Rest, Element, Box, Scope as ScopeFrame, Trial, Branch, Occurrence, Times, Before, Content, Closing, Concluding}
 use Rattle.dfdl_parse.specs.declared.frame.Next.{Next}
 use Rattle.dfdl_parse.specs.declared.frame.Next.TheVariants as next
 use Rattle.dfdl_parse.specs.declared.frame.Parts.{Parts}
@@ -62,12 +62,14 @@ use Rattle.dfdl_parse.specs.Points.{try_branch, try_occurrence}
 use Rattle.dfdl_parse.specs.Testing.{landed_test, read_test, verdict_in}
 use Rattle.dfdl_parse.specs.Stating.{behind_done, make_statement, with_behind}
 use Rattle.dfdl_terms.specs.declared.statement.Statement.{Statement as AnyStatement}
-use Rattle.dfdl_terms.specs.declared.statement.Statement.TheVariants.{Pattern, Expression, Setting, Calculation}
+use Rattle.dfdl_terms.specs.declared.statement.Statement.TheVariants.{Pattern, Expression, Setting, Calculation, Question}
 use Rattle.dfdl_terms.specs.declared.statement.Statements.{Statements}
 use Rattle.dfdl_paths.specs.declared.place.Start.{Start}
 use Rattle.dfdl_paths.specs.declared.place.Start.TheVariants.{At, Inside}
 use Rattle.dfdl_grammar.specs.Statements.{reconsidered_from, stated}
 use Rattle.dfdl_parse.proofs.Stated.{all-again, behind-comes, stated-comes}
+use Rattle.dfdl_parse.proofs.Asked.{counted-has, dispatch-has, measured-has, times-have}
+use Rattle.dfdl_parse.specs.Asking.{begins, counted_begins, dispatch_begins, measured_begins, times_begin}
 use Rattle.dfdl_parse.proofs.Resolved.{sought-comes, tested-comes}
 use Rattle.dfdl_terms.specs.declared.statement.PatternTest.{PatternTest}
 use Rattle.dfdl_texts.specs.Texts.{Text as TextRead}
@@ -410,6 +412,10 @@ module _ (m : ℕ) (held : Held) (base : held.base ≤ m) where
     statement-reaches stands limits table id number (Some (Calculation calculation)) k =
         let o : Outcome = stated limits table (At s.inside) number (Some (Calculation calculation)) s in
         pass-reaches one_row (Leave o.end) k o.state (stated-at limits table (At s.inside) number (Some (Calculation calculation)))
+    statement-reaches stands limits table id number (Some (Question question)) k = pass-reaches one_row (Leave Done) k s at
+
+    begins-reaches : (cost : Tally) (machine : Machine) → IsUpTo (8 * m) machine → Within m (begins cost held machine)
+    begins-reaches cost machine within = pass-reaches cost machine.focus machine.stack machine.state within
 
     group-reaches : (id : ℕ) (children : List ℕ) (k : List Frame) → Within m (enter_group held id children k s)
     group-reaches id [] k = pass-reaches one_row (Leave Done) k s at
@@ -440,6 +446,21 @@ module _ (m : ℕ) (held : Held) (base : held.base ≤ m) where
     enter-reaches stands limits table id (Some (PrefixedBox prefix body)) k =
         prefix-reaches stands limits table.delimiters id prefix.own (behind_units table.primitives prefix.unit (behind.Box body)) (slice_get table.primitives prefix.prim) k
         (λ last units after before. behind-at last table prefix.unit (behind.Box body) units k after before)
+    enter-reaches stands limits table id (Some (MeasuredLeaf measure prim)) k =
+        let what : Behind = behind.Leaf (read_by table.primitives s.instead prim) in
+        begins-reaches one_row (measured_begins table measure what k s)
+        (measured-has (IsUpTo (8 * m)) table k s (λ variables why. at) measure what
+        (λ variables units. behind-at (8 * m) table measure.unit what units k (record s { variables = variables }) at))
+    enter-reaches stands limits table id (Some (MeasuredBox measure body)) k =
+        begins-reaches one_row (measured_begins table measure (behind.Box body) k s)
+        (measured-has (IsUpTo (8 * m)) table k s (λ variables why. at) measure (behind.Box body)
+        (λ variables units. behind-at (8 * m) table measure.unit (behind.Box body) units k (record s { variables = variables }) at))
+    enter-reaches stands limits table id (Some (Counted question body)) k =
+        begins-reaches one_row (counted_begins table question body k s)
+        (counted-has (IsUpTo (8 * m)) table k s (λ variables why. at) question body (λ variables. at) (λ variables left. at))
+    enter-reaches stands limits table id (Some (Dispatch question keys)) k =
+        begins-reaches one_row (dispatch_begins table question keys k s)
+        (dispatch-has (IsUpTo (8 * m)) table k s (λ variables why. at) question keys (λ variables row. at))
     enter-reaches stands limits table id (Some (Statement number)) k = statement-reaches stands limits table id number (slice_get table.statements number) k
     enter-reaches stands limits table id (Some (Concluded statements body)) k = pass-reaches one_row (Enter body) (with_behind statements (Inside s.inside) k) s at
     enter-reaches stands limits table id (Some (Hidden body)) k = pass-reaches one_row (Enter body) k s at
@@ -521,6 +542,9 @@ module _ (m : ℕ) (held : Held) (base : held.base ≤ m) where
     leave-reaches limits table (Occurrence body initiated left) Done k goes = passed-reaches body initiated left k goes.0 (stays_at s.marks s.at)
     leave-reaches limits table (Occurrence body initiated left) (Failed cause bit) k goes =
         failed-reaches (Failed cause bit) k s _ at (dropped-reaches k goes.0) (is_settled s.marks)
+    leave-reaches limits table (Times body left) Done k goes =
+        begins-reaches nothing (times_begin body left k s) (times-have (IsUpTo (8 * m)) body k s at (λ more. at) left)
+    leave-reaches limits table (Times body left) (Failed cause bit) k goes = pass-reaches nothing (Leave (Failed cause bit)) k s at
     leave-reaches limits table (Before slot) Done k goes =
         done-has (Within m) UpTo held false k (λ here t. slot-at false here t) (slot-ways nothing k) slot s at (λ here. closed-at here s at) (slots_from table slot)
     leave-reaches limits table (Before slot) (Failed cause bit) k goes =

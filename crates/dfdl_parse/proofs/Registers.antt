@@ -15,7 +15,7 @@ use Rattle.dfdl_delims.specs.Longest.{Longest, Text, NoText}
 use Rattle.dfdl_terms.specs.declared.delimiters.Delimiters.{Delimiters}
 use Rattle.dfdl_terms.specs.declared.row.Primitive.{Primitive}
 use Rattle.dfdl_terms.specs.declared.row.Row.{Row}
-use Rattle.dfdl_terms.specs.declared.row.Row.TheVariants.{Leaf, Elem, Group, Skip, Align, Initiator, Terminator, Separator, Scope, Boxed, PrefixedLeaf, PrefixedBox, Repeat, Optional, Choice, Statement, Concluded, Hidden, Separated}
+use Rattle.dfdl_terms.specs.declared.row.Row.TheVariants.{Leaf, Elem, Group, Skip, Align, Initiator, Terminator, Separator, Scope, Boxed, PrefixedLeaf, PrefixedBox, MeasuredLeaf, MeasuredBox, Repeat, Counted, Optional, Choice, Dispatch, Statement, Concluded, Hidden, Separated}
 use Rattle.dfdl_terms.specs.declared.text.TextSize.{TextSize}
 use Rattle.dfdl_terms.specs.Rows.{IsWithin, NamesWithin, Table, named_by}
 use Rattle.dfdl_looks.specs.Asks.{Reached, Told, TooFar, Missing, ask}
@@ -38,7 +38,7 @@ use Rattle.dfdl_grammar.specs.Boxes.{boxed_at}
 use Rattle.dfdl_grammar.specs.Elements.{begun, has_elements}
 use Rattle.dfdl_grammar.specs.Prefixes.{bits_of_units, resized, size_of, units_told}
 use Rattle.dfdl_parse.specs.declared.frame.Frame.{Frame}
-use Rattle.dfdl_parse.specs.declared.frame.Frame.TheVariants.{Rest, Element, Box, Scope as ScopeFrame, Trial, Branch, Occurrence, Before, Content, Closing, Concluding}
+use Rattle.dfdl_parse.specs.declared.frame.Frame.TheVariants.{Rest, Element, Box, Scope as ScopeFrame, Trial, Branch, Occurrence, Times, Before, Content, Closing, Concluding}
 use Rattle.dfdl_parse.specs.declared.frame.Outside.{Outside}
 use Rattle.dfdl_parse.specs.declared.frame.Next.{Next}
 use Rattle.dfdl_parse.specs.declared.frame.Next.TheVariants as next
@@ -68,12 +68,13 @@ use Rattle.dfdl_parse.specs.Points.{try_branch, try_occurrence}
 use Rattle.dfdl_parse.specs.Testing.{landed_test, read_test, verdict_in}
 use Rattle.dfdl_parse.specs.Stating.{behind_done, make_statement, with_behind}
 use Rattle.dfdl_terms.specs.declared.statement.Statement.{Statement as AnyStatement}
-use Rattle.dfdl_terms.specs.declared.statement.Statement.TheVariants.{Pattern, Expression, Setting, Calculation}
+use Rattle.dfdl_terms.specs.declared.statement.Statement.TheVariants.{Pattern, Expression, Setting, Calculation, Question}
 use Rattle.dfdl_terms.specs.declared.statement.Statements.{Statements}
 use Rattle.dfdl_paths.specs.declared.place.Start.{Start}
 use Rattle.dfdl_paths.specs.declared.place.Start.TheVariants.{At, Inside}
 use Rattle.dfdl_grammar.specs.Statements.{reconsidered_from, stated}
 use Rattle.dfdl_parse.proofs.Stated.{all-again, behind-comes, stated-comes}
+use Rattle.dfdl_parse.proofs.Asked.{counted-has, dispatch-has, measured-has, times-have}
 use Rattle.dfdl_parse.proofs.Resolved.{sought-comes, tested-comes}
 use Rattle.dfdl_terms.specs.declared.statement.PatternTest.{PatternTest}
 use Rattle.dfdl_report.specs.declared.cause.LimitCause.TheVariants.{Window}
@@ -362,6 +363,7 @@ module _ (count : ℕ) where
       left_at _ k _ (stated-lists limits table (Inside s.inside) number (Some (Setting setting)) s lists)
   statement-names limits table held id number (Some (Calculation calculation)) k s lists =
       left_at _ k _ (stated-lists limits table (At s.inside) number (Some (Calculation calculation)) s lists)
+  statement-names limits table held id number (Some (Question question)) k s lists = left_at Done k s lists
 
   -- what has failed at a point that is resolved, or not
   failed-names : (held : Held) (end : End) (k : List Frame) (s : State) (other : Move) → All IsOne s.lists → Names other → (settled : Bool)
@@ -442,6 +444,9 @@ module _ (count : ℕ) where
   leave-names limits table held (Occurrence body initiated left) Done k s lists = passed-names held body initiated left k s lists (stays_at s.marks s.at)
   leave-names limits table held (Occurrence body initiated left) (Failed cause bit) k s lists =
       failed-names held (Failed cause bit) k s _ lists (left_at Done k (dropped s) (back-lists s.marks s lists)) (is_settled s.marks)
+  leave-names limits table held (Times body left) Done k s lists =
+      times-have (ListsWithin count) body k s (left_at Done k s lists) (λ more. record { sought = tt; open_lists = lists }) left
+  leave-names limits table held (Times body left) (Failed cause bit) k s lists = left_at _ k s lists
   leave-names limits table held (Before slot) Done k s lists =
       done-has Names HasLists held false k (slot-lists false) (slot-ways nothing held k) slot s lists (closed-lists s lists) (slots_from table slot)
   leave-names limits table held (Before slot) (Failed cause bit) k s lists =
@@ -528,13 +533,27 @@ module _ (limits : Limits) (table : Table) (held : Held) (named : All (NamesWith
       prefix-names count limits table.delimiters id prefix.own (behind_units table.primitives prefix.unit (behind.Leaf by)) k
       (λ units after still. begun-names count by (size_of prefix.unit units) (slice_get table.primitives by) k after still)
       held (slice_get table.primitives prefix.prim) s lists
-  enter-names id (Some (Repeat times body)) k s is lists = group-names count held id (replicate times body) k s lists
+  enter-names id (Some (Repeat most body)) k s is lists = group-names count held id (replicate most body) k s lists
   enter-names id (Some (Optional most item initiated body)) k s is lists = occurrence-names count one_row held body initiated most k s lists (nat_eq most 0)
   enter-names id (Some (Choice rows initiated)) k s is lists = branch-names count one_row held id 0 (slice_get rows 0) k (pointed initiated s) lists
   enter-names id (Some (PrefixedBox prefix body)) k s is lists =
       prefix-names count limits table.delimiters id prefix.own (behind_units table.primitives prefix.unit (behind.Box body)) k
       (λ units after still. box-names count (bits_of_units prefix.unit units) body k after still (nat_le (after.at + bits_of_units prefix.unit units) after.stop))
       held (slice_get table.primitives prefix.prim) s lists
+  enter-names id (Some (MeasuredLeaf measure prim)) k s is lists =
+      let by : ℕ = read_by table.primitives s.instead prim in
+      measured-has (ListsWithin count) table k s (λ variables why. left_at count _ k _ lists) measure (behind.Leaf by)
+      (λ variables units. begun-names count by (size_of measure.unit units) (slice_get table.primitives by) k (record s { variables = variables }) lists)
+  enter-names id (Some (MeasuredBox measure body)) k s is lists =
+      measured-has (ListsWithin count) table k s (λ variables why. left_at count _ k _ lists) measure (behind.Box body)
+      (λ variables units. box-names count (bits_of_units measure.unit units) body k (record s { variables = variables }) lists
+      (nat_le (s.at + bits_of_units measure.unit units) s.stop))
+  enter-names id (Some (Counted question body)) k s is lists =
+      counted-has (ListsWithin count) table k s (λ variables why. left_at count _ k _ lists) question body (λ variables. left_at count Done k _ lists)
+      (λ variables left. record { sought = tt; open_lists = lists })
+  enter-names id (Some (Dispatch question keys)) k s is lists =
+      dispatch-has (ListsWithin count) table k s (λ variables why. left_at count _ k _ lists) question keys
+      (λ variables row. record { sought = tt; open_lists = lists })
   enter-names id (Some (Statement number)) k s is lists = statement-names count limits table held id number (slice_get table.statements number) k s lists
   enter-names id (Some (Concluded statements body)) k s is lists = record { sought = tt; open_lists = lists }
   enter-names id (Some (Hidden body)) k s is lists = record { sought = tt; open_lists = lists }

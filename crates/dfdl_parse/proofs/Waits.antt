@@ -10,7 +10,7 @@ use Rattle.dfdl_value.specs.declared.value.Value.{Value}
 use Rattle.dfdl_terms.specs.declared.row.Primitive.{Primitive}
 use Rattle.dfdl_delims.specs.Longest.{Longest}
 use Rattle.dfdl_terms.specs.declared.row.Row.{Row}
-use Rattle.dfdl_terms.specs.declared.row.Row.TheVariants.{Leaf, Elem, Group, Skip, Align, Initiator, Terminator, Separator, Scope, Boxed, PrefixedLeaf, PrefixedBox, Repeat, Optional, Choice, Statement, Concluded, Hidden, Separated}
+use Rattle.dfdl_terms.specs.declared.row.Row.TheVariants.{Leaf, Elem, Group, Skip, Align, Initiator, Terminator, Separator, Scope, Boxed, PrefixedLeaf, PrefixedBox, MeasuredLeaf, MeasuredBox, Repeat, Counted, Optional, Choice, Dispatch, Statement, Concluded, Hidden, Separated}
 use Rattle.dfdl_terms.specs.Rows.{Table}
 use Rattle.dfdl_looks.specs.Looks.{seen_in}
 use Rattle.dfdl_looks.specs.Asks.{Ask, AsksFrom, Reached, Told, TooFar, Missing, Reading, ask}
@@ -36,7 +36,7 @@ use Rattle.dfdl_grammar.specs.Elements.{begun, has_elements}
 use Rattle.dfdl_grammar.specs.Rows.{below, meaning, row}
 use Rattle.dfdl_grammar.proofs.Spending.{spend-spend, spend-nothing}
 use Rattle.dfdl_parse.specs.declared.frame.Frame.{Frame}
-use Rattle.dfdl_parse.specs.declared.frame.Frame.TheVariants.{Rest, Element, Box, Scope as ScopeFrame, Trial, Branch, Occurrence, Before, Content, Closing, Concluding}
+use Rattle.dfdl_parse.specs.declared.frame.Frame.TheVariants.{Rest, Element, Box, Scope as ScopeFrame, Trial, Branch, Occurrence, Times, Before, Content, Closing, Concluding}
 use Rattle.dfdl_parse.specs.declared.frame.Outside.{Outside}
 use Rattle.dfdl_parse.specs.declared.frame.Next.{Next}
 use Rattle.dfdl_parse.specs.declared.frame.Next.TheVariants as next
@@ -71,7 +71,7 @@ use Rattle.dfdl_parse.proofs.TestSteps.{test-from, unknown}
 use Rattle.dfdl_parse.specs.Testing.{landed_test, read_test, verdict_in}
 use Rattle.dfdl_parse.specs.Stating.{make_statement, with_behind}
 use Rattle.dfdl_terms.specs.declared.statement.Statement.{Statement as AnyStatement}
-use Rattle.dfdl_terms.specs.declared.statement.Statement.TheVariants.{Pattern, Expression, Setting, Calculation}
+use Rattle.dfdl_terms.specs.declared.statement.Statement.TheVariants.{Pattern, Expression, Setting, Calculation, Question}
 use Rattle.dfdl_paths.specs.declared.place.Start.TheVariants.{At}
 use Rattle.dfdl_grammar.specs.Statements.{statement_of}
 use Rattle.dfdl_terms.specs.declared.statement.PatternTest.{PatternTest}
@@ -235,6 +235,7 @@ module _ (table : Table) (held : Held) (s : State) where
   statement-waits limits id number (Some (Expression test)) k is at waits = absurd (cc)
   statement-waits limits id number (Some (Setting setting)) k is at waits = absurd (cc)
   statement-waits limits id number (Some (Calculation calculation)) k is at waits = absurd (cc)
+  statement-waits limits id number (Some (Question question)) k is at waits = absurd (cc)
 
   -- the values that are nil, if a leaf has to have one of them
   abbrev nil : Option (List Value)
@@ -539,6 +540,10 @@ module _ (table : Table) (held : Held) (s : State) where
       (behind_units table.primitives prefix.unit (behind.Box body)) k by
       (λ input. ap (λ (r : Option Row). finish input table k (spend one_row (row input table (below input table id) id r s))) at)
       by refl waits
+  enter-waits limits id (Some (MeasuredLeaf measure prim)) k at waits = absurd (cc)
+  enter-waits limits id (Some (MeasuredBox measure body)) k at waits = absurd (cc)
+  enter-waits limits id (Some (Counted question body)) k at waits = absurd (cc)
+  enter-waits limits id (Some (Dispatch question keys)) k at waits = absurd (cc)
   enter-waits limits id (Some (Statement number)) k at waits = statement-waits limits id number (slice_get table.statements number) k refl at waits
   enter-waits limits id (Some (Concluded statements body)) k at waits = absurd (cc)
   enter-waits limits id (Some (Hidden body)) k at waits = absurd (cc)
@@ -565,6 +570,8 @@ module _ (table : Table) (held : Held) (s : State) where
       failed-branch-on held k id next (slice_get (children_of (slice_get table.rows id)) next) (Failed cause bit) s waits
   leave-on limits (Occurrence body initiated left) Done k waits = occurrence-done-on held k body initiated left s waits
   leave-on limits (Occurrence body initiated left) (Failed cause bit) k waits = failed-occurrence-on held k (Failed cause bit) s waits
+  leave-on limits (Times body left) Done k waits = absurd (cc)
+  leave-on limits (Times body left) (Failed cause bit) k waits = absurd (cc)
   leave-on limits (Before slot) Done k waits = not-waiting _ (done-passes held false k slot (slots_from table slot) s).waits waits
   leave-on limits (Before slot) (Failed cause bit) k waits =
       not-waiting _ (failed-passes held (separation_at table slot).initiated k slot (slots_from table slot) (Failed cause bit) s).waits waits

@@ -1,5 +1,5 @@
 -- What is still ahead of the machine over whole data.
-use Rattle.std.specs.Prelude.{ℕ, ◌/◌, List, [], ◌∷◌, drop, Option, Some, None, slice_get}
+use Rattle.std.specs.Prelude.{ℕ, ◌/◌, List, [], ◌∷◌, drop, replicate, Option, Some, None, slice_get}
 use Rattle.dfdl_terms.specs.Rows.{Table}
 use Rattle.dfdl_grammar.specs.declared.instead.Instead.{Instead}
 use Rattle.dfdl_grammar.specs.States.{Input, State}
@@ -16,7 +16,7 @@ use Rattle.dfdl_grammar.specs.Occurrences.{after_occurrence, occurrences}
 use Rattle.dfdl_grammar.specs.Rows.{below, group, meaning}
 use Rattle.dfdl_grammar.specs.Statements.{concluded_at}
 use Rattle.dfdl_parse.specs.declared.frame.Frame.{Frame}
-use Rattle.dfdl_parse.specs.declared.frame.Frame.TheVariants.{Rest, Element, Box, Scope as ScopeFrame, Trial, Branch, Occurrence, Before, Content, Closing, Concluding}
+use Rattle.dfdl_parse.specs.declared.frame.Frame.TheVariants.{Rest, Element, Box, Scope as ScopeFrame, Trial, Branch, Occurrence, Times, Before, Content, Closing, Concluding}
 use Rattle.dfdl_parse.specs.declared.frame.Next.{Next}
 use Rattle.dfdl_parse.specs.declared.frame.Next.TheVariants as next
 use Rattle.dfdl_parse.specs.declared.frame.Parts.{Parts}
@@ -50,6 +50,7 @@ resume input table (Trial id next) o = retried input table id (parts_of (slice_g
 resume input table (Branch id next) o =
     or_branch o.end o (branches (below input table id) (drop next (children_of (slice_get table.rows id))))
 resume input table (Occurrence body initiated left) o = after_occurrence o.end o (occurrences (meaning input table body) initiated left)
+resume input table (Times body left) o = then_do o (group (meaning input table) (replicate left body))
 resume input table (Before slot) o = before_slot (sequence_of input table slot.sequence) slot (slots_from table slot) o
 resume input table (Content slot bit empty) o = content_slot (sequence_of input table slot.sequence) slot bit empty (slots_from table slot) o
 resume input table (Closing slot bit) o = closing_slot (sequence_of input table slot.sequence) slot bit (slots_from table slot) o

@@ -6,6 +6,7 @@ pub mod Trials
 pub mod Points
 pub mod Testing
 pub mod Stating
+pub mod Asking
 pub mod Slots
 pub mod SlotsAhead
 pub mod SlotLooks

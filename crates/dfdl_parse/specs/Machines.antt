@@ -6,7 +6,7 @@ use Rattle.dfdl_bits.specs.declared.window.Seen.TheVariants.{Byte, End as DataEn
 use Rattle.dfdl_report.specs.declared.cause.LimitCause.TheVariants.{Window}
 use Rattle.dfdl_report.specs.declared.cause.ParseCause.TheVariants.{DataEnds, LengthOutOfRange}
 use Rattle.dfdl_terms.specs.declared.row.Row.{Row}
-use Rattle.dfdl_terms.specs.declared.row.Row.TheVariants.{Leaf, Elem, Group, Skip, Align, Initiator, Terminator, Separator, Scope, Boxed, PrefixedLeaf, PrefixedBox, Repeat, Optional, Choice, Statement, Concluded, Hidden, Separated}
+use Rattle.dfdl_terms.specs.declared.row.Row.TheVariants.{Leaf, Elem, Group, Skip, Align, Initiator, Terminator, Separator, Scope, Boxed, PrefixedLeaf, PrefixedBox, MeasuredLeaf, MeasuredBox, Repeat, Counted, Optional, Choice, Dispatch, Statement, Concluded, Hidden, Separated}
 use Rattle.dfdl_paths.specs.declared.place.Start.TheVariants.{At, Inside}
 use Rattle.dfdl_terms.specs.Rows.{Table}
 use Rattle.dfdl_looks.specs.Tallies.{needs_from, nothing, one_row, saw_byte, saw_end, saw_none}
@@ -21,7 +21,7 @@ use Rattle.dfdl_grammar.specs.Framing.{aligned}
 use Rattle.dfdl_grammar.specs.Delimiters.{closes_to, opens}
 use Rattle.dfdl_grammar.specs.Elements.{has_elements, left}
 use Rattle.dfdl_parse.specs.declared.frame.Frame.{Frame}
-use Rattle.dfdl_parse.specs.declared.frame.Frame.TheVariants.{Rest, Element, Box, Scope as ScopeFrame, Trial, Branch, Occurrence, Before, Content, Closing, Concluding}
+use Rattle.dfdl_parse.specs.declared.frame.Frame.TheVariants.{Rest, Element, Box, Scope as ScopeFrame, Trial, Branch, Occurrence, Times, Before, Content, Closing, Concluding}
 use Rattle.dfdl_parse.specs.declared.frame.Outside.{Outside}
 use Rattle.dfdl_parse.specs.declared.frame.Focus.{Focus}
 use Rattle.dfdl_parse.specs.declared.frame.Focus.TheVariants.{Enter, Pass, PassRest, Sized, Seek, LookIn, LookBehind, Leave}
@@ -30,6 +30,7 @@ use Rattle.dfdl_parse.specs.declared.frame.Sought.TheVariants as sought
 use Rattle.dfdl_parse.specs.Moves.{Move, pass, read_leaf}
 use Rattle.dfdl_parse.specs.Trials.{enter_element, parts_of, retry, trial_done}
 use Rattle.dfdl_parse.specs.Points.{branch_failed, occurrence_done, occurrence_failed, try_branch, try_occurrence}
+use Rattle.dfdl_parse.specs.Asking.{begins, counted_begins, dispatch_begins, measured_begins, times_begin}
 use Rattle.dfdl_parse.specs.Stating.{conclude, make_statement, reconsider, with_behind}
 use Rattle.dfdl_parse.specs.Slots.{before_done, before_failed, cause_of, closing_ended, content_ended, enter_separated, look_behind, look_in, separation_at, slots_from}
 use Rattle.dfdl_parse.specs.Boxing.{back_outside, hides}
@@ -51,9 +52,13 @@ children_of (Some (Scope list body)) = []
 children_of (Some (Boxed bits body)) = []
 children_of (Some (PrefixedLeaf prefix prim)) = []
 children_of (Some (PrefixedBox prefix body)) = []
+children_of (Some (MeasuredLeaf measure prim)) = []
+children_of (Some (MeasuredBox measure body)) = []
 children_of (Some (Repeat count body)) = replicate count body
+children_of (Some (Counted question body)) = []
 children_of (Some (Optional most item initiated body)) = []
 children_of (Some (Choice branches initiated)) = branches
+children_of (Some (Dispatch question keys)) = []
 children_of (Some (Statement number)) = []
 children_of (Some (Concluded statements body)) = []
 children_of (Some (Hidden body)) = []
@@ -159,6 +164,11 @@ enter limits table held id (Some (Optional most item initiated body)) k s = try_
 enter limits table held id (Some (Choice branches initiated)) k s = try_branch one_row held id 0 (slice_get branches 0) k (pointed initiated s)
 enter limits table held id (Some (PrefixedBox prefix body)) k s =
     read_prefix limits id held table.delimiters prefix.own (behind_units table.primitives prefix.unit (behind.Box body)) (slice_get table.primitives prefix.prim) k s
+enter limits table held id (Some (MeasuredLeaf measure prim)) k s =
+    begins one_row held (measured_begins table measure (behind.Leaf (read_by table.primitives s.instead prim)) k s)
+enter limits table held id (Some (MeasuredBox measure body)) k s = begins one_row held (measured_begins table measure (behind.Box body) k s)
+enter limits table held id (Some (Counted question body)) k s = begins one_row held (counted_begins table question body k s)
+enter limits table held id (Some (Dispatch question keys)) k s = begins one_row held (dispatch_begins table question keys k s)
 enter limits table held id (Some (Statement number)) k s =
     make_statement one_row limits table (Enter id) held number (slice_get table.statements number) k s
 enter limits table held id (Some (Concluded statements body)) k s =
@@ -180,6 +190,7 @@ leave_done limits table held (ScopeFrame count) k s = pass nothing held (Leave D
 leave_done limits table held (Trial id next) k s = trial_done held (parts_of (slice_get table.rows id)) next k s
 leave_done limits table held (Branch id next) k s = pass nothing held (Leave Done) k (closed s)
 leave_done limits table held (Occurrence body initiated left) k s = occurrence_done held body initiated left k s
+leave_done limits table held (Times body left) k s = begins nothing held (times_begin body left k s)
 leave_done limits table held (Before slot) k s = before_done held slot (slots_from table slot) k s
 leave_done limits table held (Content slot bit empty) k s =
     content_ended held (separation_at table slot).initiated slot bit empty (slots_from table slot) (nat_lt bit s.at) None Done k s
@@ -196,6 +207,7 @@ leave_failed most table held (Trial id next) end k s = retry most held id (parts
 leave_failed most table held (Branch id next) end k s =
     branch_failed held id next (slice_get (children_of (slice_get table.rows id)) next) end k s
 leave_failed most table held (Occurrence body initiated left) end k s = occurrence_failed held end k s
+leave_failed most table held (Times body left) end k s = pass nothing held (Leave end) k s
 leave_failed most table held (Before slot) end k s = before_failed held (separation_at table slot).initiated slot (slots_from table slot) end k s
 leave_failed most table held (Content slot bit empty) end k s =
     content_ended held (separation_at table slot).initiated slot bit empty (slots_from table slot) false (cause_of end) end k s

@@ -14,7 +14,7 @@ use Rattle.dfdl_grammar.specs.Framing.{aligned}
 use Rattle.dfdl_grammar.specs.Slots.{has_mark, is_tried, opens_before}
 use Rattle.dfdl_grammar.specs.States.{State, anchor_at}
 use Rattle.dfdl_parse.specs.declared.frame.Frame.{Frame}
-use Rattle.dfdl_parse.specs.declared.frame.Frame.TheVariants.{Rest, Element, Box, Scope as ScopeFrame, Trial, Branch, Occurrence, Before, Content, Closing, Concluding}
+use Rattle.dfdl_parse.specs.declared.frame.Frame.TheVariants.{Rest, Element, Box, Scope as ScopeFrame, Trial, Branch, Occurrence, Times, Before, Content, Closing, Concluding}
 use Rattle.dfdl_parse.specs.declared.frame.Focus.{Focus}
 use Rattle.dfdl_parse.specs.declared.frame.Focus.TheVariants.{Enter, Pass, PassRest, Sized, Seek, LookIn, LookBehind, Leave}
 
@@ -36,6 +36,7 @@ points_of (ScopeFrame count ∷ k) = points_of k
 points_of (Trial id next ∷ k) = false ∷ points_of k
 points_of (Branch id next ∷ k) = true ∷ points_of k
 points_of (Occurrence body initiated left ∷ k) = true ∷ points_of k
+points_of (Times body left ∷ k) = points_of k
 points_of (Before slot ∷ k) = before_points (here_of slot.progress slot.rule) (points_of k)
 points_of (Content slot bit empty ∷ k) = slot_points (here_of slot.progress slot.rule) (points_of k)
 points_of (Closing slot bit ∷ k) = slot_points (here_of slot.progress slot.rule) (points_of k)
@@ -106,6 +107,7 @@ Lie at (ScopeFrame count ∷ k) marks = Lie at k marks
 Lie at (Trial id next ∷ k) marks = Lie (first_at marks at) k (outer_marks marks)
 Lie at (Branch id next ∷ k) marks = Lie (first_at marks at) k (outer_marks marks)
 Lie at (Occurrence body initiated left ∷ k) marks = Lie (first_at marks at) k (outer_marks marks)
+Lie at (Times body left ∷ k) marks = Lie at k marks
 Lie at (Before slot ∷ k) marks =
     ((slot.progress.stage ≡ stages.Before slot.rule) × (begins (here_of slot.progress slot.rule) ≡ true))
     × Lie (before_at (here_of slot.progress slot.rule) marks at) k (outside_before (here_of slot.progress slot.rule) marks)
@@ -158,6 +160,7 @@ ComesBack (ScopeFrame count) at = Unit {0}
 ComesBack (Trial id next) at = Unit {0}
 ComesBack (Branch id next) at = Unit {0}
 ComesBack (Occurrence body initiated left) at = Unit {0}
+ComesBack (Times body left) at = Unit {0}
 ComesBack (Before slot) at = Unit {0}
 ComesBack (Content slot bit empty) at = bit ≤ at
 ComesBack (Closing slot bit) at = Unit {0}

@@ -3,7 +3,7 @@ use Rattle.std.specs.Prelude.{ℕ, nat_eq, Bool, true, false, List, ◌∷◌, O
 use Rattle.dfdl_bits.specs.Window.{Held}
 use Rattle.dfdl_paths.specs.declared.place.Start.{Start}
 use Rattle.dfdl_terms.specs.declared.statement.Statement.{Statement}
-use Rattle.dfdl_terms.specs.declared.statement.Statement.TheVariants.{Pattern, Expression, Setting, Calculation}
+use Rattle.dfdl_terms.specs.declared.statement.Statement.TheVariants.{Pattern, Expression, Setting, Calculation, Question}
 use Rattle.dfdl_terms.specs.declared.statement.Statements.{Statements}
 use Rattle.dfdl_terms.specs.Rows.{Table}
 use Rattle.dfdl_looks.specs.Tallies.{Tally, nothing}
@@ -51,6 +51,8 @@ make_statement cost limits table focus held number (Some (Setting setting)) k s 
     comes_to cost held (stated limits table (start_of (Some (Setting setting)) s) number (Some (Setting setting)) s) k
 make_statement cost limits table focus held number (Some (Calculation calculation)) k s =
     comes_to cost held (stated limits table (start_of (Some (Calculation calculation)) s) number (Some (Calculation calculation)) s) k
+make_statement cost limits table focus held number (Some (Question question)) k s =
+    comes_to cost held (stated limits table (start_of (Some (Question question)) s) number (Some (Question question)) s) k
 
 -- the stack before a component with these statements behind it, if there are some
 abbrev pub with_behind : Statements → Start → List Frame → List Frame

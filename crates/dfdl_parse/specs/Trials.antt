@@ -4,7 +4,7 @@ use Rattle.dfdl_bits.specs.Window.{Held}
 use Rattle.dfdl_report.specs.declared.cause.LimitCause.TheVariants.{Nodes}
 use Rattle.dfdl_report.specs.declared.cause.ParseCause.TheVariants.{RequiredEmpty}
 use Rattle.dfdl_terms.specs.declared.row.Row.{Row}
-use Rattle.dfdl_terms.specs.declared.row.Row.TheVariants.{Leaf, Elem, Group, Skip, Align, Initiator, Terminator, Separator, Scope, Boxed, PrefixedLeaf, PrefixedBox, Repeat, Optional, Choice, Statement, Concluded, Hidden, Separated}
+use Rattle.dfdl_terms.specs.declared.row.Row.TheVariants.{Leaf, Elem, Group, Skip, Align, Initiator, Terminator, Separator, Scope, Boxed, PrefixedLeaf, PrefixedBox, MeasuredLeaf, MeasuredBox, Repeat, Counted, Optional, Choice, Dispatch, Statement, Concluded, Hidden, Separated}
 use Rattle.dfdl_looks.specs.Tallies.{Tally, nothing, one_row, plus}
 use Rattle.dfdl_grammar.specs.declared.end.End.{End}
 use Rattle.dfdl_grammar.specs.declared.end.End.TheVariants.{Done, Failed, Stopped}
@@ -38,9 +38,13 @@ parts_of (Some (Scope list body)) = None
 parts_of (Some (Boxed bits body)) = None
 parts_of (Some (PrefixedLeaf prefix prim)) = None
 parts_of (Some (PrefixedBox prefix body)) = None
+parts_of (Some (MeasuredLeaf measure prim)) = None
+parts_of (Some (MeasuredBox measure body)) = None
 parts_of (Some (Repeat count body)) = None
+parts_of (Some (Counted question body)) = None
 parts_of (Some (Optional most item initiated body)) = None
 parts_of (Some (Choice branches initiated)) = None
+parts_of (Some (Dispatch question keys)) = None
 parts_of (Some (Statement number)) = None
 parts_of (Some (Concluded statements body)) = None
 parts_of (Some (Hidden body)) = None

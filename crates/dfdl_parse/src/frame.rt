@@ -41,6 +41,11 @@ pub enum Frame {
         initiated: bool,
         left: u64,
     },
+    /// This row ends, and so many more times it stands there ('Arrays and Optional Elements').
+    Times {
+        body: RowId,
+        left: u128,
+    },
     /// The separator that a slot begins with was sought ('Sequence Groups').
     Before {
         slot: SlotPlace,

@@ -82,6 +82,10 @@ impl Parser {
                 self.focus = Focus::Leave(end);
                 Ok(())
             }
+            Frame::Times { .. } => {
+                self.focus = Focus::Leave(end);
+                Ok(())
+            }
             Frame::Element { .. } => {
                 self.focus = Focus::Leave(end);
                 Ok(())
@@ -134,6 +138,7 @@ impl Parser {
                 initiated,
                 left,
             } => self.finish_occurrence(body, initiated, left),
+            Frame::Times { body, left } => self.next_time(body, left),
             Frame::Before { slot } => self.finish_before(terms, slot),
             Frame::Content { slot, bit, empty } => {
                 let moved = bit < self.at;
@@ -204,9 +209,13 @@ pub(crate) fn child_of(terms: &Terms, group: RowId, place: usize) -> Option<RowI
         Row::Boxed { .. } => None,
         Row::PrefixedLeaf { .. } => None,
         Row::PrefixedBox { .. } => None,
+        Row::MeasuredLeaf { .. } => None,
+        Row::MeasuredBox { .. } => None,
         Row::Repeat { count, body } => repeated(*count, *body, place),
+        Row::Counted { .. } => None,
         Row::Optional { .. } => None,
         Row::Choice { branches, .. } => branches.as_slice().get(place).copied(),
+        Row::Dispatch { .. } => None,
         Row::Statement { .. } => None,
         Row::Concluded { .. } => None,
         Row::Hidden { .. } => None,

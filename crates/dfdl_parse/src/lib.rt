@@ -5,6 +5,7 @@
 //! else. `StandsFor`, `Ends` and `Finished` (`specs/Sessions.antt`) say so. Serves 'Parsing Algorithm'.
 #![tactic(auto)]
 
+mod asking;
 mod boxes;
 pub mod frame;
 mod framing;

@@ -308,8 +308,21 @@ impl Parser {
                 let waits = self.begin_prefix(terms, id, prefix, behind, sight, steps)?;
                 Ok(waits)
             }
+            Row::MeasuredLeaf { measure, prim } => {
+                let behind = Behind::Leaf(self.read_by(terms, *prim));
+                self.begin_measured(terms, *measure, behind)?;
+                Ok(false)
+            }
+            Row::MeasuredBox { measure, body } => {
+                self.begin_measured(terms, *measure, Behind::Box(*body))?;
+                Ok(false)
+            }
             Row::Repeat { count, body } => {
                 self.first_time(id, *count, *body)?;
+                Ok(false)
+            }
+            Row::Counted { question, body } => {
+                self.begin_counted(terms, *question, *body)?;
                 Ok(false)
             }
             Row::Optional {
@@ -326,6 +339,10 @@ impl Parser {
                 initiated,
             } => {
                 self.begin_choice(id, branches.as_slice(), *initiated)?;
+                Ok(false)
+            }
+            Row::Dispatch { question, keys } => {
+                self.begin_dispatch(terms, *question, keys.as_slice())?;
                 Ok(false)
             }
             Row::Statement { statement } => {

@@ -159,7 +159,7 @@ impl Parser {
     }
 
     // What stands behind a prefix begins, which has so many units.
-    fn begin_behind(
+    pub(crate) fn begin_behind(
         &mut self,
         terms: &Terms,
         units: u128,

@@ -112,11 +112,15 @@ impl Parser {
                 self.calculate(terms, Start::At(self.inside), calculation)?;
                 Ok(false)
             }
+            Statement::Question(_) => {
+                self.focus = Focus::Leave(End::Done);
+                Ok(false)
+            }
         }
     }
 
     // The value of an expression that begins there. The variables that it asks for are read.
-    fn evaluate(
+    pub(crate) fn evaluate(
         &mut self,
         terms: &Terms,
         expression: &Expression,
@@ -339,6 +343,10 @@ impl Parser {
             Statement::Expression(test) => self.judge(terms, start, number, test),
             Statement::Setting(setting) => self.set(terms, start, setting),
             Statement::Calculation(calculation) => self.calculate(terms, start, calculation),
+            Statement::Question(_) => {
+                self.focus = Focus::Leave(End::Done);
+                Ok(())
+            }
         }
     }
 
@@ -376,6 +384,7 @@ impl Parser {
             Statement::Expression(test) => self.judge_again(terms, start, test),
             Statement::Setting(_) => Ok(()),
             Statement::Calculation(_) => Ok(()),
+            Statement::Question(_) => Ok(()),
         }
     }
 

@@ -8,7 +8,7 @@ use Rattle.dfdl_terms.specs.declared.event.Event.TheVariants.{Start, Simple, Nil
 use Rattle.dfdl_terms.specs.declared.row.Primitive.{Primitive}
 use Rattle.dfdl_terms.specs.declared.row.Primitive.TheVariants.{Integer, Packed, Truth, Octets, Text, NilOctets, Default, NilValues, Pattern}
 use Rattle.dfdl_terms.specs.declared.row.Row.{Row}
-use Rattle.dfdl_terms.specs.declared.row.Row.TheVariants.{Leaf, Elem, Group, Skip, Align, Initiator, Terminator, Separator, Scope, Boxed, PrefixedLeaf, PrefixedBox, Repeat, Optional, Choice, Statement, Concluded, Hidden, Separated}
+use Rattle.dfdl_terms.specs.declared.row.Row.TheVariants.{Leaf, Elem, Group, Skip, Align, Initiator, Terminator, Separator, Scope, Boxed, PrefixedLeaf, PrefixedBox, MeasuredLeaf, MeasuredBox, Repeat, Counted, Optional, Choice, Dispatch, Statement, Concluded, Hidden, Separated}
 use Rattle.dfdl_terms.specs.Rows.{Table}
 use Rattle.dfdl_json.specs.ByRows.{by_rows}
 use Rattle.dfdl_json.specs.Children.{root_row}
@@ -53,9 +53,13 @@ form_in t (Some (Scope list body)) = None
 form_in t (Some (Boxed bits body)) = None
 form_in t (Some (PrefixedLeaf prefix prim)) = None
 form_in t (Some (PrefixedBox prefix body)) = None
+form_in t (Some (MeasuredLeaf measure prim)) = None
+form_in t (Some (MeasuredBox measure body)) = None
 form_in t (Some (Repeat count body)) = None
+form_in t (Some (Counted question body)) = None
 form_in t (Some (Optional most item initiated body)) = None
 form_in t (Some (Choice branches initiated)) = None
+form_in t (Some (Dispatch question keys)) = None
 form_in t (Some (Statement statement)) = None
 form_in t (Some (Concluded behind body)) = None
 form_in t (Some (Hidden body)) = None
@@ -119,9 +123,13 @@ laying_by t inside row (Some (Scope list body)) around more = more
 laying_by t inside row (Some (Boxed bits body)) around more = more
 laying_by t inside row (Some (PrefixedLeaf prefix prim)) around more = more
 laying_by t inside row (Some (PrefixedBox prefix body)) around more = more
+laying_by t inside row (Some (MeasuredLeaf measure prim)) around more = more
+laying_by t inside row (Some (MeasuredBox measure body)) around more = more
 laying_by t inside row (Some (Repeat count body)) around more = inside body around more
+laying_by t inside row (Some (Counted question body)) around more = more
 laying_by t inside row (Some (Optional most item initiated body)) around more = more
 laying_by t inside row (Some (Choice branches initiated)) around more = more
+laying_by t inside row (Some (Dispatch question keys)) around more = more
 laying_by t inside row (Some (Statement statement)) around more = more
 laying_by t inside row (Some (Concluded behind body)) around more = more
 laying_by t inside row (Some (Hidden body)) around more = more

@@ -6,7 +6,7 @@ use Rattle.std.proofs.lemmas.List.{ext_get_or, get_or_past}
 use Rattle.std.proofs.lemmas.List.Folds.{list_any_none}
 use Rattle.std.proofs.lemmas.Option.{slice_get-get_or, slice_get_within}
 use Rattle.dfdl_terms.specs.declared.row.Row.{Row}
-use Rattle.dfdl_terms.specs.declared.row.Row.TheVariants.{Leaf, Elem, Group, Skip, Align, Initiator, Terminator, Separator, Scope, Boxed, PrefixedLeaf, PrefixedBox, Repeat, Optional, Choice, Statement, Concluded, Hidden, Separated}
+use Rattle.dfdl_terms.specs.declared.row.Row.TheVariants.{Leaf, Elem, Group, Skip, Align, Initiator, Terminator, Separator, Scope, Boxed, PrefixedLeaf, PrefixedBox, MeasuredLeaf, MeasuredBox, Repeat, Counted, Optional, Choice, Dispatch, Statement, Concluded, Hidden, Separated}
 use Rattle.dfdl_terms.specs.declared.slots.Slot.{Slot}
 use Rattle.dfdl_terms.specs.Arrays.{children_in, is_item, is_item_in, is_item_of, is_marked, item_marks, item_marks_from, MarksItems}
 use Rattle.dfdl_terms.specs.Rows.{ChildrenBelow, Nests}
@@ -58,9 +58,13 @@ none_inside (Some (Scope list body)) bound other below past = refl
 none_inside (Some (Boxed bits body)) bound other below past = refl
 none_inside (Some (PrefixedLeaf prefix prim)) bound other below past = refl
 none_inside (Some (PrefixedBox prefix body)) bound other below past = refl
+none_inside (Some (MeasuredLeaf measure prim)) bound other below past = refl
+none_inside (Some (MeasuredBox measure body)) bound other below past = refl
 none_inside (Some (Repeat count body)) bound other below past = refl
+none_inside (Some (Counted question body)) bound other below past = refl
 none_inside (Some (Optional most item initiated body)) bound other below past = refl
 none_inside (Some (Choice branches initiated)) bound other below past = refl
+none_inside (Some (Dispatch question keys)) bound other below past = refl
 none_inside (Some (Statement statement)) bound other below past = refl
 none_inside (Some (Concluded behind body)) bound other below past = refl
 none_inside (Some (Hidden body)) bound other below past = refl
@@ -72,6 +76,7 @@ none_repeated : (rows : List Row) → Nests rows → (bound other : ℕ) (row : 
 none_repeated rows nests bound other (Repeat count body) within past below =
     or_from (eqb other body) (list_any (eqb other) (children_in (slice_get rows body))) (ne_eqb other body (λ same. absurd (omega arith)))
     (none_inside (slice_get rows body) body other (λ some is. nests body some (omega arith) is) (omega arith))
+none_repeated rows nests bound other (Counted question body) within past below = ne_eqb other body (λ same. absurd (omega arith))
 none_repeated rows nests bound other (Optional most true initiated body) within past below = ne_eqb other body (λ same. absurd (omega arith))
 none_repeated rows nests bound other (Optional most false initiated body) within past below = refl
 none_repeated rows nests bound other (Separated policy position initiated slots) within past below = none_among slots bound other below (omega arith)
@@ -87,7 +92,10 @@ none_repeated rows nests bound other (Scope list body) within past below = refl
 none_repeated rows nests bound other (Boxed bits body) within past below = refl
 none_repeated rows nests bound other (PrefixedLeaf prefix prim) within past below = refl
 none_repeated rows nests bound other (PrefixedBox prefix body) within past below = refl
+none_repeated rows nests bound other (MeasuredLeaf measure prim) within past below = refl
+none_repeated rows nests bound other (MeasuredBox measure body) within past below = refl
 none_repeated rows nests bound other (Choice branches initiated) within past below = refl
+none_repeated rows nests bound other (Dispatch question keys) within past below = refl
 none_repeated rows nests bound other (Statement statement) within past below = refl
 none_repeated rows nests bound other (Concluded behind body) within past below = refl
 none_repeated rows nests bound other (Hidden body) within past below = refl

@@ -3,7 +3,7 @@ use Rattle.std.specs.Prelude.{◌≡◌, ◌&&◌, ℕ, zero, suc, length, Bool,
 use Rattle.std.specs.List.{list_any}
 use Rattle.dfdl_terms.specs.declared.row.Row.{Row}
 use Rattle.dfdl_terms.specs.declared.slots.Slot.{Slot}
-use Rattle.dfdl_terms.specs.declared.row.Row.TheVariants.{Group, Repeat, Optional, Separated}
+use Rattle.dfdl_terms.specs.declared.row.Row.TheVariants.{Group, Repeat, Counted, Optional, Separated}
 
 -- the children of a group; other rows have none
 abbrev pub children_in : Option Row → List ℕ
@@ -14,10 +14,11 @@ children_in _ = []
 abbrev pub is_item_in : ℕ → Slot → Bool
 is_item_in element slot = slot.is_item && nat_eq element slot.body
 
--- The row of this number is the one that a row repeats, or a child of the group that it repeats. A row whose times are tried says
--- itself whether what it repeats is an item, and so does a slot.
+-- The row of this number is the one that a row repeats, or a child of the group that it repeats. What an expression counts is an item. A row
+-- whose times are tried says itself whether what it repeats is an item, and so does a slot.
 abbrev pub is_item_of : List Row → ℕ → Row → Bool
 is_item_of rows element (Repeat count body) = list_any (nat_eq element) (body ∷ children_in (slice_get rows body))
+is_item_of rows element (Counted question body) = nat_eq element body
 is_item_of rows element (Optional most item initiated body) = item && nat_eq element body
 is_item_of rows element (Separated policy position initiated slots) = list_any (is_item_in element) slots
 is_item_of rows element _ = false

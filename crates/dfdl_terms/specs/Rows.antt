@@ -15,7 +15,7 @@ use Rattle.dfdl_terms.specs.declared.text.TextSize.TheVariants.{Bits, Characters
 use Rattle.dfdl_terms.specs.declared.row.Primitive.{Primitive}
 use Rattle.dfdl_terms.specs.declared.row.Primitive.TheVariants.{Integer, Packed, Truth, Octets, Text, NilOctets, Default, NilValues, Pattern}
 use Rattle.dfdl_terms.specs.declared.row.Row.{Row}
-use Rattle.dfdl_terms.specs.declared.row.Row.TheVariants.{Leaf, Elem, Group, Skip, Align, Initiator, Terminator, Separator, Scope, Boxed, PrefixedLeaf, PrefixedBox, Repeat, Optional, Choice, Statement, Concluded, Hidden, Separated}
+use Rattle.dfdl_terms.specs.declared.row.Row.TheVariants.{Leaf, Elem, Group, Skip, Align, Initiator, Terminator, Separator, Scope, Boxed, PrefixedLeaf, PrefixedBox, MeasuredLeaf, MeasuredBox, Repeat, Counted, Optional, Choice, Dispatch, Statement, Concluded, Hidden, Separated}
 use Rattle.dfdl_terms.specs.declared.delimiters.Delimiters.{Delimiters}
 use Rattle.dfdl_terms.specs.declared.statement.Statements.{Statements}
 use Rattle.dfdl_terms.specs.declared.statement.Statement.{Statement as AnyStatement}
@@ -70,9 +70,13 @@ ChildrenBelow bound (Scope list body) = body < bound
 ChildrenBelow bound (Boxed bits body) = body < bound
 ChildrenBelow bound (PrefixedLeaf prefix prim) = Unit {0}
 ChildrenBelow bound (PrefixedBox prefix body) = body < bound
+ChildrenBelow bound (MeasuredLeaf measure prim) = Unit {0}
+ChildrenBelow bound (MeasuredBox measure body) = body < bound
 ChildrenBelow bound (Repeat count body) = body < bound
+ChildrenBelow bound (Counted question body) = body < bound
 ChildrenBelow bound (Optional most item initiated body) = body < bound
 ChildrenBelow bound (Choice branches initiated) = All (λ b. b < bound) branches
+ChildrenBelow bound (Dispatch question keys) = All (λ key. key.body < bound) keys
 ChildrenBelow bound (Statement statement) = Unit {0}
 ChildrenBelow bound (Concluded behind body) = body < bound
 ChildrenBelow bound (Hidden body) = body < bound
@@ -120,9 +124,13 @@ NamesWithin named (Scope list body) = list < length named.delimiters
 NamesWithin named (Boxed bits body) = Unit {0}
 NamesWithin named (PrefixedLeaf prefix prim) = (prefix.prim < length named.primitives) × (prim < length named.primitives)
 NamesWithin named (PrefixedBox prefix body) = prefix.prim < length named.primitives
+NamesWithin named (MeasuredLeaf measure prim) = (measure.question < length named.statements) × (prim < length named.primitives)
+NamesWithin named (MeasuredBox measure body) = measure.question < length named.statements
 NamesWithin named (Repeat count body) = Unit {0}
+NamesWithin named (Counted question body) = question < length named.statements
 NamesWithin named (Optional most item initiated body) = Unit {0}
 NamesWithin named (Choice branches initiated) = Unit {0}
+NamesWithin named (Dispatch question keys) = question < length named.statements
 NamesWithin named (Statement statement) = statement < length named.statements
 NamesWithin named (Concluded behind body) = AreStatements (length named.statements) behind
 NamesWithin named (Hidden body) = Unit {0}
@@ -192,9 +200,13 @@ IsElementRow (Some (Scope list body)) = ⊥
 IsElementRow (Some (Boxed bits body)) = ⊥
 IsElementRow (Some (PrefixedLeaf prefix prim)) = ⊥
 IsElementRow (Some (PrefixedBox prefix body)) = ⊥
+IsElementRow (Some (MeasuredLeaf measure prim)) = ⊥
+IsElementRow (Some (MeasuredBox measure body)) = ⊥
 IsElementRow (Some (Repeat count body)) = ⊥
+IsElementRow (Some (Counted question body)) = ⊥
 IsElementRow (Some (Optional most item initiated body)) = ⊥
 IsElementRow (Some (Choice branches initiated)) = ⊥
+IsElementRow (Some (Dispatch question keys)) = ⊥
 IsElementRow (Some (Statement statement)) = ⊥
 IsElementRow (Some (Concluded behind body)) = ⊥
 IsElementRow (Some (Hidden body)) = ⊥
@@ -227,9 +239,13 @@ IsPlainRow (Scope list body) = ⊥
 IsPlainRow (Boxed bits body) = ⊥
 IsPlainRow (PrefixedLeaf prefix prim) = ⊥
 IsPlainRow (PrefixedBox prefix body) = ⊥
+IsPlainRow (MeasuredLeaf measure prim) = ⊥
+IsPlainRow (MeasuredBox measure body) = ⊥
 IsPlainRow (Repeat count body) = ⊥
+IsPlainRow (Counted question body) = ⊥
 IsPlainRow (Optional most item initiated body) = ⊥
 IsPlainRow (Choice branches initiated) = ⊥
+IsPlainRow (Dispatch question keys) = ⊥
 IsPlainRow (Statement statement) = ⊥
 IsPlainRow (Concluded behind body) = ⊥
 IsPlainRow (Hidden body) = ⊥

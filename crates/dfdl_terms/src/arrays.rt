@@ -62,6 +62,7 @@ fn mark_repeated(terms: &Terms, row: &Row, marks: &mut Vec<bool>)
                 mark(marks, children.as_slice());
             }
         }
+        Row::Counted { body, .. } => mark(marks, &[*body]),
         Row::Optional {
             is_item: true,
             body,

@@ -8,6 +8,7 @@ pub mod arrays;
 pub mod delimiters;
 pub mod event;
 pub mod framing;
+pub mod keys;
 pub mod names;
 pub mod occurs;
 pub mod prefix;
@@ -24,13 +25,16 @@ pub use delimiters::{Delimiter, Delimiters};
 pub use dfdl_vars::VarDef;
 pub use event::Event;
 pub use framing::Framing;
+pub use keys::{Key, KeyList};
 pub use names::NameNumbers;
 pub use occurs::Occurs;
-pub use prefix::{LengthUnit, Prefix};
+pub use prefix::{LengthUnit, Measure, Prefix};
 pub use representations::Representations;
 pub use row::{Primitive, Row, RowId, RowList, Tables};
 pub use slots::{Slot, SlotList};
-pub use statement::{Calculation, ExpressionTest, PatternTest, Setting, Statement, Statements};
+pub use statement::{
+    Calculation, ExpressionTest, PatternTest, Question, Setting, Statement, Statements,
+};
 pub use terms::{TermFault, Terms};
 pub use text::{
     DefaultForm, NilForm, NilOctets, NilTexts, NilValues, OctetForm, PatternForm, ScanForm,

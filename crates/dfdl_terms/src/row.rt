@@ -2,8 +2,9 @@ ghost use Rattle.std.specs.Prelude.{◌≡◌, ◌<◌, List};
 ghost use Rattle.dfdl_terms.specs.Rows.{IsWritten};
 
 use crate::delimiters::{Delimiter, Delimiters};
+use crate::keys::KeyList;
 use crate::names::NameNumbers;
-use crate::prefix::Prefix;
+use crate::prefix::{Measure, Prefix};
 use crate::representations::Representations;
 use crate::slots::SlotList;
 use crate::statement::{Statement, Statements};
@@ -168,9 +169,26 @@ pub enum Row {
         prefix: Prefix,
         body: RowId,
     },
+    /// The content of the primitive of this number, which has the length that an expression gives in place of one of its own
+    /// ('Lengths').
+    MeasuredLeaf {
+        measure: Measure,
+        prim: u32,
+    },
+    /// A box of as many units as an expression gives, with a row in it; what the row leaves of the box is passed over ('Lengths').
+    MeasuredBox {
+        measure: Measure,
+        body: RowId,
+    },
     /// A row so many times, one after the other ('Arrays and Optional Elements').
     Repeat {
         count: u32,
+        body: RowId,
+    },
+    /// A row that is an item of an array, as many times as the question of this number in the tables tells, one after the other ('Arrays and
+    /// Optional Elements').
+    Counted {
+        question: u32,
         body: RowId,
     },
     /// A row at most so many times, one after the other, each of which is tried: one that fails, or that passes over no bit, is
@@ -188,6 +206,11 @@ pub enum Row {
         branches: RowList,
         /// An initiator that is found at the begin of one tells that it is the one that stands there.
         initiated: bool,
+    },
+    /// The row whose key is the text that the question of this number in the tables tells ('Choices').
+    Dispatch {
+        question: u32,
+        keys: KeyList,
     },
     /// Does the statement of this number in the tables ('DFDL Schema Component Model').
     Statement {

@@ -42,6 +42,12 @@ pub struct Calculation {
     pub expression: Expression,
 }
 
+/// What a row asks for: a length, a number of occurrences, or the key of a choice ('DFDL Expression Language').
+#[derive(Debug, Drop)]
+pub struct Question {
+    pub expression: Expression,
+}
+
 /// What a schema states at a component.
 #[derive(Debug, Drop)]
 pub enum Statement {
@@ -49,6 +55,7 @@ pub enum Statement {
     Expression(ExpressionTest),
     Setting(Setting),
     Calculation(Calculation),
+    Question(Question),
 }
 
 /// Statements of the tables that stand there one after the other.

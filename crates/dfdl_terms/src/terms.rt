@@ -2,6 +2,7 @@ ghost use Rattle.dfdl_terms.specs.Rows.{most_rows, Nests, IsFirstBad, ChildrenBe
 ghost use Rattle.dfdl_terms.specs.Messages.{message_in, message_of};
 ghost use Rattle.std.specs.Prelude.{ℕ, option_map, IfSome, IfNone, ◌≡◌, ◌<◌, ◌≤◌, ◌↔◌, ◌-◌, List, length, All, IsTrue, IfOk, IsOk, IsErrOf, Some, slice_get, vec_len};
 
+use super::keys::Key;
 use super::row::{Row, RowId, Tables};
 use super::slots::Slot;
 use super::statement::Statement;
@@ -76,9 +77,13 @@ fn has_children_below(row: &Row, bound: RowId) -> bool
         Row::Boxed { body, .. } => body.number() < bound.number(),
         Row::PrefixedLeaf { .. } => true,
         Row::PrefixedBox { body, .. } => body.number() < bound.number(),
+        Row::MeasuredLeaf { .. } => true,
+        Row::MeasuredBox { body, .. } => body.number() < bound.number(),
         Row::Repeat { body, .. } => body.number() < bound.number(),
+        Row::Counted { body, .. } => body.number() < bound.number(),
         Row::Optional { body, .. } => body.number() < bound.number(),
         Row::Choice { branches, .. } => are_below(branches.as_slice(), bound),
+        Row::Dispatch { keys, .. } => keys_are_below(keys.as_slice(), bound),
         Row::Statement { .. } => true,
         Row::Concluded { body, .. } => body.number() < bound.number(),
         Row::Hidden { body } => body.number() < bound.number(),
@@ -95,6 +100,7 @@ fn said(statement: &Statement) -> Option<&str>
         Statement::Expression(test) => text_of(&test.message),
         Statement::Setting(_) => None,
         Statement::Calculation(_) => None,
+        Statement::Question(_) => None,
     }
 }
 
@@ -119,6 +125,13 @@ fn slots_are_below(slots: &[Slot], bound: RowId) -> bool
     ensures { IsTrue result ↔ All (λ slot. slot.body < bound) slots.now }
 {
     slots.iter().all(|slot| slot.body.number() < bound.number())
+}
+
+// Whether the row of each of the keys is below the bound.
+fn keys_are_below(keys: &[Key], bound: RowId) -> bool
+    ensures { IsTrue result ↔ All (λ key. key.body < bound) keys.now }
+{
+    keys.iter().all(|key| key.body.number() < bound.number())
 }
 
 impl Terms {

@@ -1,6 +1,6 @@
-use Rattle.dfdl_json.proofs.Declares.{there, on_ok, below_elem, below_group, elem_visited, elem_less, parts_visited, parts_less, group_declares, group_steps, bare_visited, bare_less, leaf_declares, leaf_steps, skip_declares, skip_steps, align_declares, align_steps, initiator_declares, initiator_steps, terminator_declares, separator_declares, terminator_steps, separator_steps, below_scope, below_concluded, scope_declares, concluded_declares, scope_steps, concluded_steps, below_box, box_declares, box_steps, body_visited, body_less, prefixed_leaf_declares, prefixed_leaf_steps, below_prefixed_box, prefixed_box_declares, prefixed_box_steps, below_repeat, repeat_declares, repeat_steps, below_optional, optional_declares, optional_steps, below_choice, choice_declares, choice_steps, statement_declares, statement_steps, below_hidden, hidden_declares, hidden_steps, below_separated, separated_declares, separated_steps, no_row_declares, no_row_steps}
+use Rattle.dfdl_json.proofs.Declares.{there, on_ok, below_elem, below_group, elem_visited, elem_less, parts_visited, parts_less, group_declares, group_steps, bare_visited, bare_less, leaf_declares, leaf_steps, skip_declares, skip_steps, align_declares, align_steps, initiator_declares, initiator_steps, terminator_declares, separator_declares, terminator_steps, separator_steps, below_scope, below_concluded, scope_declares, concluded_declares, scope_steps, concluded_steps, below_box, box_declares, box_steps, body_visited, body_less, prefixed_leaf_declares, prefixed_leaf_steps, below_prefixed_box, prefixed_box_declares, prefixed_box_steps, below_repeat, repeat_declares, repeat_steps, below_optional, optional_declares, optional_steps, below_choice, choice_declares, choice_steps, statement_declares, statement_steps, below_hidden, hidden_declares, hidden_steps, measured_leaf_declares, measured_leaf_steps, below_measured_box, measured_box_declares, measured_box_steps, below_counted, counted_declares, counted_steps, below_dispatch, dispatch_declares, dispatch_steps, below_separated, separated_declares, separated_steps, no_row_declares, no_row_steps}
 use Rattle.std.proofs.Common.{sym, ◌∙◌, ap, [], ◌++◌}
-use Rattle.dfdl_json.specs.Children.{bodies_of}
+use Rattle.dfdl_json.specs.Children.{bodies_of, keyed}
 use Rattle.dfdl_json.proofs.children.visit.Goals as goal
 
 pub returns-in_ok-push-in-Some-Elem-clause-same : goal.returns-in_ok-push-in-Some-Elem-clause-same
@@ -107,6 +107,18 @@ returns-in-Some-Repeat-clause-less c = on_ok c.push_all-in-Some-Repeat.result _ 
     (repeat_steps c.args.terms.now c.args.row _ _ (there _ _ _ c.in-Some-Repeat.ensures.row c.in-Some-Repeat.field-0-is)
     (below_repeat _ _ _ _ c.in-Some-Repeat.field-0-is c.in-Some-Repeat.ensures.nests)))
 
+pub returns-in-Some-Counted-clause-same : goal.returns-in-Some-Counted-clause-same
+returns-in-Some-Counted-clause-same c = on_ok c.push_all-in-Some-Counted.result _ _ c.push_all-in-Some-Counted.ensures
+    (body_visited c.args.terms.now c.args.row c.args.elements.now.items _ c.in-Some-Counted.body _
+    (counted_declares c.args.terms.now c.args.row _ _ (there _ _ _ c.in-Some-Counted.ensures.row c.in-Some-Counted.field-0-is)
+    (below_counted _ _ _ _ c.in-Some-Counted.field-0-is c.in-Some-Counted.ensures.nests)))
+
+pub returns-in-Some-Counted-clause-less : goal.returns-in-Some-Counted-clause-less
+returns-in-Some-Counted-clause-less c = on_ok c.push_all-in-Some-Counted.result _ _ c.push_all-in-Some-Counted.ensures
+    (body_less c.args.terms.now c.args.row [] _ c.in-Some-Counted.body _
+    (counted_steps c.args.terms.now c.args.row _ _ (there _ _ _ c.in-Some-Counted.ensures.row c.in-Some-Counted.field-0-is)
+    (below_counted _ _ _ _ c.in-Some-Counted.field-0-is c.in-Some-Counted.ensures.nests)))
+
 pub returns-in-Some-Optional-clause-same : goal.returns-in-Some-Optional-clause-same
 returns-in-Some-Optional-clause-same c = on_ok c.push_all-in-Some-Optional.result _ _ c.push_all-in-Some-Optional.ensures
     (body_visited c.args.terms.now c.args.row c.args.elements.now.items _ c.in-Some-Optional.body _
@@ -141,6 +153,16 @@ returns-in-Some-PrefixedLeaf-clause-less c =
     bare_less c.args.terms.now c.args.row [] _
     (prefixed_leaf_steps c.args.terms.now c.args.row _ _ (there _ _ _ c.in-Some-PrefixedLeaf.ensures.row c.in-Some-PrefixedLeaf.field-0-is))
 
+pub returns-in-Some-MeasuredLeaf-clause-same : goal.returns-in-Some-MeasuredLeaf-clause-same
+returns-in-Some-MeasuredLeaf-clause-same c =
+    bare_visited c.args.terms.now c.args.row _ _
+    (measured_leaf_declares c.args.terms.now c.args.row _ _ (there _ _ _ c.in-Some-MeasuredLeaf.ensures.row c.in-Some-MeasuredLeaf.field-0-is))
+
+pub returns-in-Some-MeasuredLeaf-clause-less : goal.returns-in-Some-MeasuredLeaf-clause-less
+returns-in-Some-MeasuredLeaf-clause-less c =
+    bare_less c.args.terms.now c.args.row [] _
+    (measured_leaf_steps c.args.terms.now c.args.row _ _ (there _ _ _ c.in-Some-MeasuredLeaf.ensures.row c.in-Some-MeasuredLeaf.field-0-is))
+
 pub returns-in-Some-PrefixedBox-clause-same : goal.returns-in-Some-PrefixedBox-clause-same
 returns-in-Some-PrefixedBox-clause-same c = on_ok c.push_all-in-Some-PrefixedBox.result _ _ c.push_all-in-Some-PrefixedBox.ensures
     (body_visited c.args.terms.now c.args.row c.args.elements.now.items _ c.in-Some-PrefixedBox.body _
@@ -152,6 +174,18 @@ returns-in-Some-PrefixedBox-clause-less c = on_ok c.push_all-in-Some-PrefixedBox
     (body_less c.args.terms.now c.args.row [] _ c.in-Some-PrefixedBox.body _
     (prefixed_box_steps c.args.terms.now c.args.row _ _ (there _ _ _ c.in-Some-PrefixedBox.ensures.row c.in-Some-PrefixedBox.field-0-is)
     (below_prefixed_box _ _ _ _ c.in-Some-PrefixedBox.field-0-is c.in-Some-PrefixedBox.ensures.nests)))
+
+pub returns-in-Some-MeasuredBox-clause-same : goal.returns-in-Some-MeasuredBox-clause-same
+returns-in-Some-MeasuredBox-clause-same c = on_ok c.push_all-in-Some-MeasuredBox.result _ _ c.push_all-in-Some-MeasuredBox.ensures
+    (body_visited c.args.terms.now c.args.row c.args.elements.now.items _ c.in-Some-MeasuredBox.body _
+    (measured_box_declares c.args.terms.now c.args.row _ _ (there _ _ _ c.in-Some-MeasuredBox.ensures.row c.in-Some-MeasuredBox.field-0-is)
+    (below_measured_box _ _ _ _ c.in-Some-MeasuredBox.field-0-is c.in-Some-MeasuredBox.ensures.nests)))
+
+pub returns-in-Some-MeasuredBox-clause-less : goal.returns-in-Some-MeasuredBox-clause-less
+returns-in-Some-MeasuredBox-clause-less c = on_ok c.push_all-in-Some-MeasuredBox.result _ _ c.push_all-in-Some-MeasuredBox.ensures
+    (body_less c.args.terms.now c.args.row [] _ c.in-Some-MeasuredBox.body _
+    (measured_box_steps c.args.terms.now c.args.row _ _ (there _ _ _ c.in-Some-MeasuredBox.ensures.row c.in-Some-MeasuredBox.field-0-is)
+    (below_measured_box _ _ _ _ c.in-Some-MeasuredBox.field-0-is c.in-Some-MeasuredBox.ensures.nests)))
 
 pub returns-in-Some-Statement-clause-same : goal.returns-in-Some-Statement-clause-same
 returns-in-Some-Statement-clause-same c =
@@ -184,6 +218,20 @@ returns-in-Some-Hidden-clause-less c = on_ok c.push_all-in-Some-Hidden.result _ 
     (body_less c.args.terms.now c.args.row [] _ c.in-Some-Hidden.body _
     (hidden_steps c.args.terms.now c.args.row _ (there _ _ _ c.in-Some-Hidden.ensures.row c.in-Some-Hidden.field-0-is)
     (below_hidden _ _ _ c.in-Some-Hidden.field-0-is c.in-Some-Hidden.ensures.nests)))
+
+pub returns-in-Some-Dispatch-clause-same : goal.returns-in-Some-Dispatch-clause-same
+returns-in-Some-Dispatch-clause-same c = on_ok c.push_keys.result _ _ c.push_keys.ensures
+    (λ now_is. parts_visited c.args.terms.now c.args.row c.args.elements.now.items _ _ _
+    (dispatch_declares c.args.terms.now c.args.row _ _ (there _ _ _ c.in-Some-Dispatch.ensures.row c.in-Some-Dispatch.field-0-is)
+    (below_dispatch _ _ _ _ c.in-Some-Dispatch.field-0-is c.in-Some-Dispatch.ensures.nests))
+    (now_is ∙ ap (λ xs. keyed xs ++ c.args.left.now.items) c.as_slice-in-Some-Dispatch.ensures))
+
+pub returns-in-Some-Dispatch-clause-less : goal.returns-in-Some-Dispatch-clause-less
+returns-in-Some-Dispatch-clause-less c = on_ok c.push_keys.result _ _ c.push_keys.ensures
+    (λ now_is. parts_less c.args.terms.now c.args.row [] _ _ _
+    (dispatch_steps c.args.terms.now c.args.row _ _ (there _ _ _ c.in-Some-Dispatch.ensures.row c.in-Some-Dispatch.field-0-is)
+    (below_dispatch _ _ _ _ c.in-Some-Dispatch.field-0-is c.in-Some-Dispatch.ensures.nests))
+    (now_is ∙ ap (λ xs. keyed xs ++ c.args.left.now.items) c.as_slice-in-Some-Dispatch.ensures))
 
 pub returns-in-Some-Separated-clause-same : goal.returns-in-Some-Separated-clause-same
 returns-in-Some-Separated-clause-same c = on_ok c.push_slots.result _ _ c.push_slots.ensures

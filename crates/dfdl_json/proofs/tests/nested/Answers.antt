@@ -1,10 +1,10 @@
-use Rattle.std.proofs.Common.{◌≡◌, ℕ, false, List, [], ◌∷◌, Option, None, All, ap, ◌∙◌, length, lit<, arith}
+use Rattle.std.proofs.Common.{◌≡◌, ℕ, false, List, [], ◌∷◌, Option, None, All, ap, ◌∙◌, length, lit<}
 use Rattle.std.proofs.lemmas.List.Elements.{All-cons, All-nil}
 use Rattle.dfdl_forms.specs.declared.simple.Simple.{Simple}
 use Rattle.dfdl_terms.specs.declared.representations.Representations.{Representations}
 use Rattle.dfdl_terms.specs.declared.statement.Statements.{Statements}
 use Rattle.dfdl_terms.specs.declared.row.Row.{Row}
-use Rattle.dfdl_terms.specs.declared.row.Row.TheVariants.{Elem, Group}
+use Rattle.dfdl_terms.specs.declared.row.Row.TheVariants.{Elem}
 use Rattle.dfdl_terms.specs.Rows.{HasElementLast, IsPrimitive, NamesWithin, Table, table_of}
 use Rattle.dfdl_terms.specs.Tables.{Named}
 use Rattle.dfdl_json.proofs.tests.nested.Goals as goal
@@ -14,12 +14,6 @@ no_trials = record { nil = None; empty = None; refuses_empty = false; are_severa
 
 abbrev none_behind : Statements
 none_behind = record { first = 0; count = 0 }
-
-element_named : (n : Named) (row : Row) (x : List ℕ) (s : Option Simple) (i : ℕ) → row ≡ Elem x s no_trials none_behind i → NamesWithin n row
-element_named n row x s i is = rw is ((tt, tt), omega arith)
-
-group_named : (n : Named) (row : Row) (children : List ℕ) → row ≡ Group children → NamesWithin n row
-group_named n row children is = rw is tt
 
 -- what is said of a list is said of an equal one
 all_at : {A : Type 0} (P : A → Type 0) (xs ys : List A) → xs ≡ ys → All P ys → All P xs
@@ -45,9 +39,10 @@ build-requires-clause-named c =
     let P : Row → Type 0 = NamesWithin c.new-tables.result in
     let one : length c.new-tables.result.primitives ≡ 1 = ap (λ (n : Named). length n.primitives) c.new-tables.ensures ∙ ap length c.in_ok-forms.ensures.items in
     all_at P c.in_ok-rows.rows.items _ c.in_ok-rows.ensures.items
-    (all_thirteen P _ _ _ _ _ _ _ _ _ _ _ _ _ (rw one (lit< tt)) (element_named c.new-tables.result _ _ _ _ c.in_ok-element.ensures) (element_named c.new-tables.result _ _ _ _ c.in_ok-element-2.ensures)
-    (group_named c.new-tables.result _ _ c.in_ok-group.ensures) (group_named c.new-tables.result _ _ c.in_ok-group-2.ensures) tt (element_named c.new-tables.result _ _ _ _ c.in_ok-element-3.ensures)
-    (rw one (lit< tt, lit< tt)) (element_named c.new-tables.result _ _ _ _ c.in_ok-element-4.ensures) tt (group_named c.new-tables.result _ _ c.in_ok-group-3.ensures) (rw one (lit< tt)) (element_named c.new-tables.result _ _ _ _ c.in_ok-element-5.ensures))
+    (all_thirteen P _ _ _ _ _ _ _ _ _ _ _ _ _ (rw one (lit< tt)) (c.in_ok-numbers.ensures.x c.new-tables.result) (c.in_ok-numbers.ensures.y c.new-tables.result)
+    (c.in_ok-groups.ensures.of_y c.new-tables.result) (c.in_ok-groups.ensures.of_a c.new-tables.result) tt (c.in_ok-element.ensures.within c.new-tables.result)
+    (rw one (lit< tt, lit< tt)) (c.in_ok-numbers.ensures.b c.new-tables.result) tt (c.in_ok-groups.ensures.of_r c.new-tables.result) (rw one (lit< tt))
+    (c.in_ok-element-2.ensures.within c.new-tables.result))
 
 pub build-requires-clause-bounded : goal.build-requires-clause-bounded
 build-requires-clause-bounded c =
@@ -55,4 +50,4 @@ build-requires-clause-bounded c =
     (All-cons IsPrimitive c.form.result [] c.form.ensures (All-nil IsPrimitive))
 
 pub returns : goal.returns
-returns c = last_there _ c.in_ok-rows.rows.items _ _ _ _ _ _ _ _ _ _ _ _ _ _ _ _ _ c.in_ok-build.ensures.ok c.in_ok-rows.ensures.items c.in_ok-element-5.ensures
+returns c = last_there _ c.in_ok-rows.rows.items _ _ _ _ _ _ _ _ _ _ _ _ _ _ _ _ _ c.in_ok-build.ensures.ok c.in_ok-rows.ensures.items c.in_ok-element-2.ensures.row

@@ -6,7 +6,7 @@ use Rattle.dfdl_json.specs.Found.{noted}
 use Rattle.dfdl_json.specs.Infosets.{simple_findings, complex_findings, findings, value_in}
 use Rattle.dfdl_json.specs.Reading.{coming, data_at}
 use Rattle.dfdl_json.proofs.Declares.{there, on_ok, on_ok_four, below_elem}
-use Rattle.dfdl_json.proofs.Contents.{left_same, simple_less, complex_less, simple_comes, complex_comes, bare_comes, leaf_says, group_says, skip_says, align_says, initiator_says, terminator_says, separator_says, scope_says, concluded_says, repeat_says, optional_says, choice_says, statement_says, hidden_says, separated_says, box_says, prefixed_leaf_says, prefixed_box_says, no_row_says, less_left}
+use Rattle.dfdl_json.proofs.Contents.{left_same, simple_less, complex_less, simple_comes, complex_comes, bare_comes, leaf_says, group_says, skip_says, align_says, initiator_says, terminator_says, separator_says, scope_says, concluded_says, repeat_says, optional_says, choice_says, statement_says, hidden_says, separated_says, box_says, prefixed_leaf_says, prefixed_box_says, measured_leaf_says, measured_box_says, counted_says, dispatch_says, no_row_says, less_left}
 use Rattle.dfdl_json.proofs.reading.Reading.read_content.Goals as goal
 
 pub returns-in-Some-clause-same : goal.returns-in-Some-clause-same
@@ -130,6 +130,15 @@ returns-in-Some-Repeat-clause-same c =
 pub returns-in-Some-Repeat-clause-less : goal.returns-in-Some-Repeat-clause-less
 returns-in-Some-Repeat-clause-less c = less_left c.args.terms.now c.args.row c.args.self.now.tasks.items
 
+pub returns-in-Some-Counted-clause-same : goal.returns-in-Some-Counted-clause-same
+returns-in-Some-Counted-clause-same c =
+    bare_comes c.args.terms.now c.args.row (view c.args.content.now) c.args.self.now.around c.args.self.now.found c.args.self.now.tasks.items
+    (data_at c.args.self.now.contents.items)
+    (counted_says c.args.terms.now c.args.row (view c.args.content.now) c.args.self.now.around _ _ (there _ _ _ c.in-Some-Counted.ensures.row c.in-Some-Counted.field-0-is))
+
+pub returns-in-Some-Counted-clause-less : goal.returns-in-Some-Counted-clause-less
+returns-in-Some-Counted-clause-less c = less_left c.args.terms.now c.args.row c.args.self.now.tasks.items
+
 pub returns-in-Some-Optional-clause-same : goal.returns-in-Some-Optional-clause-same
 returns-in-Some-Optional-clause-same c =
     bare_comes c.args.terms.now c.args.row (view c.args.content.now) c.args.self.now.around c.args.self.now.found c.args.self.now.tasks.items
@@ -148,6 +157,15 @@ returns-in-Some-Choice-clause-same c =
 pub returns-in-Some-Choice-clause-less : goal.returns-in-Some-Choice-clause-less
 returns-in-Some-Choice-clause-less c = less_left c.args.terms.now c.args.row c.args.self.now.tasks.items
 
+pub returns-in-Some-Dispatch-clause-same : goal.returns-in-Some-Dispatch-clause-same
+returns-in-Some-Dispatch-clause-same c =
+    bare_comes c.args.terms.now c.args.row (view c.args.content.now) c.args.self.now.around c.args.self.now.found c.args.self.now.tasks.items
+    (data_at c.args.self.now.contents.items)
+    (dispatch_says c.args.terms.now c.args.row (view c.args.content.now) c.args.self.now.around _ _ (there _ _ _ c.in-Some-Dispatch.ensures.row c.in-Some-Dispatch.field-0-is))
+
+pub returns-in-Some-Dispatch-clause-less : goal.returns-in-Some-Dispatch-clause-less
+returns-in-Some-Dispatch-clause-less c = less_left c.args.terms.now c.args.row c.args.self.now.tasks.items
+
 pub returns-in-Some-PrefixedLeaf-clause-same : goal.returns-in-Some-PrefixedLeaf-clause-same
 returns-in-Some-PrefixedLeaf-clause-same c =
     bare_comes c.args.terms.now c.args.row (view c.args.content.now) c.args.self.now.around c.args.self.now.found c.args.self.now.tasks.items
@@ -158,6 +176,16 @@ returns-in-Some-PrefixedLeaf-clause-same c =
 pub returns-in-Some-PrefixedLeaf-clause-less : goal.returns-in-Some-PrefixedLeaf-clause-less
 returns-in-Some-PrefixedLeaf-clause-less c = less_left c.args.terms.now c.args.row c.args.self.now.tasks.items
 
+pub returns-in-Some-MeasuredLeaf-clause-same : goal.returns-in-Some-MeasuredLeaf-clause-same
+returns-in-Some-MeasuredLeaf-clause-same c =
+    bare_comes c.args.terms.now c.args.row (view c.args.content.now) c.args.self.now.around c.args.self.now.found c.args.self.now.tasks.items
+    (data_at c.args.self.now.contents.items)
+    (measured_leaf_says c.args.terms.now c.args.row (view c.args.content.now) c.args.self.now.around _ _
+    (there _ _ _ c.in-Some-MeasuredLeaf.ensures.row c.in-Some-MeasuredLeaf.field-0-is))
+
+pub returns-in-Some-MeasuredLeaf-clause-less : goal.returns-in-Some-MeasuredLeaf-clause-less
+returns-in-Some-MeasuredLeaf-clause-less c = less_left c.args.terms.now c.args.row c.args.self.now.tasks.items
+
 pub returns-in-Some-PrefixedBox-clause-same : goal.returns-in-Some-PrefixedBox-clause-same
 returns-in-Some-PrefixedBox-clause-same c =
     bare_comes c.args.terms.now c.args.row (view c.args.content.now) c.args.self.now.around c.args.self.now.found c.args.self.now.tasks.items
@@ -167,6 +195,16 @@ returns-in-Some-PrefixedBox-clause-same c =
 
 pub returns-in-Some-PrefixedBox-clause-less : goal.returns-in-Some-PrefixedBox-clause-less
 returns-in-Some-PrefixedBox-clause-less c = less_left c.args.terms.now c.args.row c.args.self.now.tasks.items
+
+pub returns-in-Some-MeasuredBox-clause-same : goal.returns-in-Some-MeasuredBox-clause-same
+returns-in-Some-MeasuredBox-clause-same c =
+    bare_comes c.args.terms.now c.args.row (view c.args.content.now) c.args.self.now.around c.args.self.now.found c.args.self.now.tasks.items
+    (data_at c.args.self.now.contents.items)
+    (measured_box_says c.args.terms.now c.args.row (view c.args.content.now) c.args.self.now.around _ _
+    (there _ _ _ c.in-Some-MeasuredBox.ensures.row c.in-Some-MeasuredBox.field-0-is))
+
+pub returns-in-Some-MeasuredBox-clause-less : goal.returns-in-Some-MeasuredBox-clause-less
+returns-in-Some-MeasuredBox-clause-less c = less_left c.args.terms.now c.args.row c.args.self.now.tasks.items
 
 pub returns-in-Some-Statement-clause-same : goal.returns-in-Some-Statement-clause-same
 returns-in-Some-Statement-clause-same c =

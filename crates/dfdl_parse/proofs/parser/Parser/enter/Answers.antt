@@ -1,9 +1,14 @@
-use Rattle.std.proofs.Common.{◌-◌, ◌∙◌, refl, sym, ap, arith}
+use Rattle.std.proofs.Common.{ℕ, ◌-◌, ◌∙◌, refl, sym, ap, subst, false, arith}
 use Rattle.dfdl_looks.specs.Tallies.{one_row}
+use Rattle.dfdl_terms.specs.declared.keys.Key.{Key}
+use Rattle.dfdl_grammar.specs.Leaves.{read_by}
+use Rattle.dfdl_parse.specs.declared.frame.Behind.TheVariants as behind
+use Rattle.dfdl_parse.specs.Asking.{begins, counted_begins, dispatch_begins, measured_begins}
+use Rattle.dfdl_parse.specs.Steps.{Moved}
 use Rattle.dfdl_parse.specs.Shown.{limits_of, state_of}
-use Rattle.dfdl_parse.proofs.Landings.{box-entered, concluded-entered, leaf-entered, scope-entered, separated-entered, statement-entered}
+use Rattle.dfdl_parse.proofs.Landings.{asking-entered, box-entered, concluded-entered, leaf-entered, scope-entered, separated-entered, statement-entered}
 use Rattle.std.proofs.Common.{List}
-use Rattle.dfdl_terms.specs.declared.row.Row.TheVariants.{Separated}
+use Rattle.dfdl_terms.specs.declared.row.Row.TheVariants.{Counted, Dispatch, MeasuredBox, MeasuredLeaf, Separated}
 use Rattle.dfdl_terms.specs.declared.slots.Slot.{Slot}
 use Rattle.dfdl_parse.specs.Slots.{enter_separated}
 use Rattle.dfdl_parse.proofs.SlotMoves.{separated-passes}
@@ -60,3 +65,47 @@ returns-in_ok-begin_concluded-in-Concluded-clause-moved g c =
     concluded-entered (limits_of old c.args.sight.now) c.args.terms.now c.args.sight.now c.args.id c.row.result.now old.stack (state_of old) old.far c.begin_concluded.new.self
     c.row.ensures.row c.in-Concluded.behind c.in-Concluded.body (c.args.steps.now - c.args.steps.now) c.in-Concluded.is (omega arith)
     (c.in_ok-begin_concluded-in-Concluded.ensures.moved c.args.sight.now one_row (refl, refl))
+
+pub returns-in_ok-begin_measured-in-MeasuredLeaf-clause-moved : goal.returns-in_ok-begin_measured-in-MeasuredLeaf-clause-moved
+returns-in_ok-begin_measured-in-MeasuredLeaf-clause-moved g c =
+    let old = c.args.self.now in
+    let held = c.args.sight.now in
+    let table = c.args.terms.now in
+    let row = c.in-MeasuredLeaf in
+    asking-entered (limits_of old held) table held c.args.id c.row.result.now old.stack (state_of old) old.far c.begin_measured.new.self
+    c.row.ensures.row (MeasuredLeaf row.measure row.prim)
+    (measured_begins table row.measure (behind.Leaf (read_by table.primitives old.instead row.prim)) old.stack (state_of old)) (c.args.steps.now - c.args.steps.now)
+    row.is refl (omega arith)
+    (subst (λ (n : ℕ). Moved (begins one_row held (measured_begins table row.measure (behind.Leaf n) old.stack (state_of old))) false old.far
+    c.begin_measured.new.self held 0) c.read_by-in-MeasuredLeaf.ensures (c.in_ok-begin_measured-in-MeasuredLeaf.ensures.moved held))
+
+pub returns-in_ok-begin_measured-in-MeasuredBox-clause-moved : goal.returns-in_ok-begin_measured-in-MeasuredBox-clause-moved
+returns-in_ok-begin_measured-in-MeasuredBox-clause-moved g c =
+    let old = c.args.self.now in
+    let held = c.args.sight.now in
+    let table = c.args.terms.now in
+    let row = c.in-MeasuredBox in
+    asking-entered (limits_of old held) table held c.args.id c.row.result.now old.stack (state_of old) old.far c.begin_measured-in-MeasuredBox.new.self
+    c.row.ensures.row (MeasuredBox row.measure row.body) (measured_begins table row.measure (behind.Box row.body) old.stack (state_of old))
+    (c.args.steps.now - c.args.steps.now) row.is refl (omega arith) (c.in_ok-begin_measured-in-MeasuredBox.ensures.moved held)
+
+pub returns-in_ok-begin_counted-in-Counted-clause-moved : goal.returns-in_ok-begin_counted-in-Counted-clause-moved
+returns-in_ok-begin_counted-in-Counted-clause-moved g c =
+    let old = c.args.self.now in
+    let held = c.args.sight.now in
+    let table = c.args.terms.now in
+    let row = c.in-Counted in
+    asking-entered (limits_of old held) table held c.args.id c.row.result.now old.stack (state_of old) old.far c.begin_counted.new.self
+    c.row.ensures.row (Counted row.question row.body) (counted_begins table row.question row.body old.stack (state_of old))
+    (c.args.steps.now - c.args.steps.now) row.is refl (omega arith) (c.in_ok-begin_counted-in-Counted.ensures.moved held)
+
+pub returns-in_ok-begin_dispatch-in-Dispatch-clause-moved : goal.returns-in_ok-begin_dispatch-in-Dispatch-clause-moved
+returns-in_ok-begin_dispatch-in-Dispatch-clause-moved g c =
+    let old = c.args.self.now in
+    let held = c.args.sight.now in
+    let table = c.args.terms.now in
+    let row = c.in-Dispatch in
+    let keys : List Key = c.as_slice-in-Dispatch.result.now in
+    asking-entered (limits_of old held) table held c.args.id c.row.result.now old.stack (state_of old) old.far c.begin_dispatch.new.self
+    c.row.ensures.row (Dispatch row.question keys) (dispatch_begins table row.question keys old.stack (state_of old)) (c.args.steps.now - c.args.steps.now)
+    (row.is ∙ ap (Dispatch row.question) (sym c.as_slice-in-Dispatch.ensures)) refl (omega arith) (c.in_ok-begin_dispatch-in-Dispatch.ensures.moved held)

@@ -204,6 +204,46 @@ returns-in-Some-Statement-clause-moves c =
 pub returns-in-Some-Statement-clause-less : goal.returns-in-Some-Statement-clause-less
 returns-in-Some-Statement-clause-less c = same_less c.args.terms.now c.args.row c.args.self.now.tasks.items c.args.self.now.tasks.items refl
 
+pub returns-in-Some-Dispatch-clause-moves : goal.returns-in-Some-Dispatch-clause-moves
+returns-in-Some-Dispatch-clause-moves c =
+    let old = c.args.self.now in
+    let t = c.args.terms.now in
+    ap (outcome old c.args.events.now) (sym (laid_nothing t c.args.row old.around (left t old.tasks.items old.around) _
+    (there _ _ _ c.in-Some-Dispatch.ensures.row c.in-Some-Dispatch.field-0-is) refl))
+
+pub returns-in-Some-Dispatch-clause-less : goal.returns-in-Some-Dispatch-clause-less
+returns-in-Some-Dispatch-clause-less c = same_less c.args.terms.now c.args.row c.args.self.now.tasks.items c.args.self.now.tasks.items refl
+
+pub returns-in-Some-Counted-clause-moves : goal.returns-in-Some-Counted-clause-moves
+returns-in-Some-Counted-clause-moves c =
+    let old = c.args.self.now in
+    let t = c.args.terms.now in
+    ap (outcome old c.args.events.now) (sym (laid_nothing t c.args.row old.around (left t old.tasks.items old.around) _
+    (there _ _ _ c.in-Some-Counted.ensures.row c.in-Some-Counted.field-0-is) refl))
+
+pub returns-in-Some-Counted-clause-less : goal.returns-in-Some-Counted-clause-less
+returns-in-Some-Counted-clause-less c = same_less c.args.terms.now c.args.row c.args.self.now.tasks.items c.args.self.now.tasks.items refl
+
+pub returns-in-Some-MeasuredBox-clause-moves : goal.returns-in-Some-MeasuredBox-clause-moves
+returns-in-Some-MeasuredBox-clause-moves c =
+    let old = c.args.self.now in
+    let t = c.args.terms.now in
+    ap (outcome old c.args.events.now) (sym (laid_nothing t c.args.row old.around (left t old.tasks.items old.around) _
+    (there _ _ _ c.in-Some-MeasuredBox.ensures.row c.in-Some-MeasuredBox.field-0-is) refl))
+
+pub returns-in-Some-MeasuredBox-clause-less : goal.returns-in-Some-MeasuredBox-clause-less
+returns-in-Some-MeasuredBox-clause-less c = same_less c.args.terms.now c.args.row c.args.self.now.tasks.items c.args.self.now.tasks.items refl
+
+pub returns-in-Some-MeasuredLeaf-clause-moves : goal.returns-in-Some-MeasuredLeaf-clause-moves
+returns-in-Some-MeasuredLeaf-clause-moves c =
+    let old = c.args.self.now in
+    let t = c.args.terms.now in
+    ap (outcome old c.args.events.now) (sym (laid_nothing t c.args.row old.around (left t old.tasks.items old.around) _
+    (there _ _ _ c.in-Some-MeasuredLeaf.ensures.row c.in-Some-MeasuredLeaf.field-0-is) refl))
+
+pub returns-in-Some-MeasuredLeaf-clause-less : goal.returns-in-Some-MeasuredLeaf-clause-less
+returns-in-Some-MeasuredLeaf-clause-less c = same_less c.args.terms.now c.args.row c.args.self.now.tasks.items c.args.self.now.tasks.items refl
+
 pub returns-in-Some-Concluded-clause-moves : goal.returns-in-Some-Concluded-clause-moves
 returns-in-Some-Concluded-clause-moves c =
     let old = c.args.self.now in

@@ -5,6 +5,7 @@ use Rattle.dfdl_checks.specs.Calculations.{calculation_of}
 use Rattle.dfdl_checks.specs.Delimiters.{delimiters_of}
 use Rattle.dfdl_checks.specs.Framing.{framing_of}
 use Rattle.dfdl_checks.specs.Judged.{Judged}
+use Rattle.dfdl_checks.specs.Measures.{count_expression, measure_of}
 use Rattle.dfdl_checks.specs.Numbers.{primitive_of}
 use Rattle.dfdl_checks.specs.Occurrences.{is_count_parsed, occurrences_of}
 use Rattle.dfdl_checks.specs.Representations.{representations_of}
@@ -32,5 +33,7 @@ judgement_of hidden settings j = record {
   checks = checks_of j;
   settings = settings;
   calculation = calculation_of j;
+  measure = measure_of j;
+  count = count_expression j;
   hidden = hidden;
 }

@@ -1,6 +1,6 @@
 -- What is wrong at each component of a schema by itself, how the values of its simple elements lie in the data, which fill, which
 -- delimiters and which box stand around its content, which other representations it has, how often it occurs, which tests and settings it
--- has, by which expression its value is calculated, and which group it hides.
+-- has, by which expressions its value is calculated and its length and the number of its occurrences are told, and which group it hides.
 use Rattle.std.specs.Prelude.{ℕ, List, [], length, nat_lt, Option, None, Some, Bool, false, if◌then◌else◌}
 use Rattle.dfdl_documents.specs.Documents.{SchemaDocument}
 use Rattle.dfdl_components.specs.declared.site.Site.{Site}
@@ -8,6 +8,7 @@ use Rattle.dfdl_components.specs.Globals.{site}
 use Rattle.dfdl_components.specs.Sites.{IsSite, role_of}
 use Rattle.dfdl_checks.specs.Calculations.{calculation_of, kind_for}
 use Rattle.dfdl_checks.specs.Judged.{Judged}
+use Rattle.dfdl_checks.specs.Measures.{count_expression, measure_of}
 use Rattle.dfdl_checks.specs.Occurrences.{is_count_parsed, occurrences_of}
 use Rattle.dfdl_checks.specs.Patterns.{pattern_prefix}
 use Rattle.dfdl_checks.specs.Prefixes.{prefix_of}
@@ -16,6 +17,7 @@ use Rattle.dfdl_checks.specs.Rules.{breach_of_component}
 use Rattle.dfdl_checks.specs.Standings.{initiates}
 use Rattle.dfdl_checks.specs.Tests.{checks_of, tests_of}
 use Rattle.dfdl_checks.specs.declared.expression_tests.CheckForm.{CheckForm}
+use Rattle.dfdl_checks.specs.declared.measures.MeasureForm.{MeasureForm}
 use Rattle.dfdl_checks.specs.declared.tried.OtherRepresentations.{OtherRepresentations}
 use Rattle.dfdl_checks.specs.declared.prefixes.PrefixForm.{PrefixForm}
 use Rattle.dfdl_checks.specs.Boxes.{size_of_box}
@@ -143,6 +145,14 @@ IsCheckOf documents check = IsSite documents (site check.document check.element)
 abbrev pub calculation_at : Purpose → (Site → Bool) → List SchemaDocument → Site → Option (List ℕ)
 calculation_at purpose refused documents own = calculation_of (judged_at purpose refused documents own)
 
+-- the expression that tells how long the content of a component is, and what it counts, if there is one
+abbrev pub measure_at : Purpose → (Site → Bool) → List SchemaDocument → Site → Option MeasureForm
+measure_at purpose refused documents own = measure_of (judged_at purpose refused documents own)
+
+-- the expression that tells how often a component occurs, if there is one
+abbrev pub count_at : Purpose → (Site → Bool) → List SchemaDocument → Site → Option (List ℕ)
+count_at purpose refused documents own = count_expression (judged_at purpose refused documents own)
+
 -- settings are built for parsing
 abbrev pub settings_for : Purpose → List Site → List Site
 settings_for Parsing settings = settings
@@ -173,6 +183,8 @@ no_judgement = record {
   checks = [];
   settings = [];
   calculation = None;
+  measure = None;
+  count = None;
   hidden = None;
 }
 
@@ -195,6 +207,8 @@ judgement_at purpose refused documents own =
       checks = built_checks_at purpose refused documents own;
       settings = built_settings_at purpose documents own;
       calculation = calculation_at purpose refused documents own;
+      measure = measure_at purpose refused documents own;
+      count = count_at purpose refused documents own;
       hidden = hidden_at purpose documents own;
     }
     else no_judgement

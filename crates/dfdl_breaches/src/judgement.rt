@@ -2,7 +2,7 @@
 use crate::check_list::CheckList;
 use crate::setting_list::SettingList;
 use crate::test_list::TestList;
-use dfdl_checks::{Breach, Markup, OtherRepresentations, PrefixForm};
+use dfdl_checks::{Breach, Markup, MeasureForm, OtherRepresentations, PrefixForm};
 use dfdl_components::Site;
 use dfdl_terms::{Framing, Occurs, Primitive};
 use dfdl_value::TextValue;
@@ -18,7 +18,7 @@ pub struct Judgement {
     pub framing: Framing,
     /// Its initiator, its terminator and its separator.
     pub markup: Markup,
-    /// How many bits the box has around the content of a complex element with a length of its own.
+    /// How many bits the box has around the content of a complex element with a constant length of its own.
     pub size: Option<u64>,
     /// How its length prefix lies in the data, if it has one.
     pub prefix: Option<PrefixForm>,
@@ -38,6 +38,10 @@ pub struct Judgement {
     pub settings: SettingList,
     /// The expression by which its value is calculated, as it is written, if it is ('Calculated Values').
     pub calculation: Option<TextValue>,
+    /// By which expression its length is told, and what that counts ('Lengths').
+    pub measure: Option<MeasureForm>,
+    /// The expression that tells how often it occurs, as it is written, if it does ('Arrays and Optional Elements').
+    pub count: Option<TextValue>,
     /// It stands for the group of this sequence or choice, whose elements the infoset doesn't have ('Sequence Groups').
     pub hidden: Option<Site>,
 }

@@ -14,8 +14,8 @@ use crate::setting_list::SettingList;
 use crate::test_list::TestList;
 use crate::testing::tests_of;
 use dfdl_checks::{
-    PrefixForm, Subject, breach, calculation, checks, delimiters_at, framing, initiates,
-    is_count_parsed, length_pattern, message_of, occurrences, other_representations,
+    PrefixForm, Subject, breach, calculation, checks, count, delimiters_at, framing, initiates,
+    is_count_parsed, length_pattern, measure, message_of, occurrences, other_representations,
     pattern_encoding, prefix, primitive, size_of_box,
 };
 use dfdl_components::Site;
@@ -71,6 +71,8 @@ fn told_of(
     let others = other_representations(alloc, subject)?;
     let checks = CheckList::from_vec(checks(alloc, subject)?);
     let calculation = message_of(alloc, calculation(subject))?;
+    let measure = measure(alloc, subject)?;
+    let count = count(alloc, subject)?;
     Ok(Judgement {
         breach,
         primitive,
@@ -86,6 +88,8 @@ fn told_of(
         checks,
         settings,
         calculation,
+        measure,
+        count,
         hidden,
     })
 }

@@ -17,7 +17,7 @@ ghost use Rattle.dfdl_checks.specs.declared.purpose.Purpose.TheVariants.{Unparsi
 ghost use Rattle.dfdl_chains.specs.Kinds.{kind_at};
 ghost use Rattle.dfdl_checks.specs.declared.prefixes.PrefixForm.{PrefixForm};
 ghost use Rattle.dfdl_breaches.specs.Builds.{AreAllBuilt, PatternsSeen, patterns_at};
-ghost use Rattle.dfdl_breaches.specs.Judging.{IsCheckOf, breach_at, built_checks_at, built_settings_at, built_tests_at, calculation_at, form_of_prefix, hidden_at, initiates_at, is_parsed_at, others_at, primitive_at};
+ghost use Rattle.dfdl_breaches.specs.Judging.{IsCheckOf, breach_at, built_checks_at, built_settings_at, built_tests_at, calculation_at, count_at, form_of_prefix, hidden_at, initiates_at, is_parsed_at, measure_at, others_at, primitive_at};
 
 use dfdl_chains::{named_groups_are_within, statements_are_within};
 use dfdl_checks::laws::{
@@ -55,8 +55,8 @@ pub fn sound_elements_have_bounded_primitives()
     primitives_for_unparsing_are_whole();
 }
 
-/// For unparsing no test and no setting is built, no value is calculated, no component hides a group, no content is initiated, and no
-/// occurrence is of kind parsed.
+/// For unparsing no test and no setting is built, no value is calculated, no component hides a group, no content is initiated, no
+/// occurrence is of kind parsed, and no expression tells a length or a number of occurrences.
 #[tactic(auto, using(crate::proofs::HiddenKinds::untested, crate::proofs::HiddenKinds::unhidden))]
 pub fn statements_are_for_parsing()
     ensures tests { (refused : Site → Bool) (documents : List SchemaDocument) (own : Site) → built_tests_at Unparsing refused documents own ≡ [] }
@@ -66,6 +66,8 @@ pub fn statements_are_for_parsing()
     ensures hidden { (documents : List SchemaDocument) (own : Site) → hidden_at Unparsing documents own ≡ None }
     ensures initiated { (refused : Site → Bool) (documents : List SchemaDocument) (own : Site) → initiates_at Unparsing refused documents own ≡ false }
     ensures counted { (refused : Site → Bool) (documents : List SchemaDocument) (own : Site) → is_parsed_at Unparsing refused documents own ≡ false }
+    ensures unmeasured { (refused : Site → Bool) (documents : List SchemaDocument) (own : Site) → measure_at Unparsing refused documents own ≡ None }
+    ensures uncounted { (refused : Site → Bool) (documents : List SchemaDocument) (own : Site) → count_at Unparsing refused documents own ≡ None }
 {}
 
 /// A group that a component hides is one of the documents'.

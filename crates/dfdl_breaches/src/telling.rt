@@ -225,6 +225,8 @@ fn nothing_told(alloc: Global) -> Judgement
         checks: CheckList::from_vec(Vec::new(alloc)),
         settings: SettingList::from_vec(Vec::new(alloc)),
         calculation: None,
+        measure: None,
+        count: None,
         hidden: None,
     }
 }

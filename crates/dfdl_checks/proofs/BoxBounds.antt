@@ -1,5 +1,5 @@
 -- What is known of each component with a box.
-use Rattle.std.proofs.Common.{◌≡◌, refl, sym, ap, ◌∙◌, ℕ, ◌≤◌, ◌*◌, Option, Some, None, Bool, true, false, if◌then◌else◌, ◌&&◌, nat_le, codes, arith}
+use Rattle.std.proofs.Common.{◌≡◌, refl, sym, ap, ◌∙◌, ℕ, ◌≤◌, ◌*◌, Option, Some, None, Bool, true, false, not, if◌then◌else◌, ◌&&◌, nat_le, codes, arith}
 use Rattle.std.proofs.Math.Nat.{le-mul_of_pos_right}
 use Rattle.dfdl_forms.specs.declared.encoding.Encoding.{Encoding}
 use Rattle.dfdl_forms.specs.declared.encoding.Encoding.TheVariants as encodings
@@ -8,7 +8,7 @@ use Rattle.dfdl_checks.specs.Boxes.{box_bits, box_number, box_unit, box_units, c
 use Rattle.dfdl_checks.specs.Encodings.{character_bits, encoding_told, smallest_unit}
 use Rattle.dfdl_checks.specs.Judged.{Judged}
 use Rattle.dfdl_checks.specs.Lengths.{length_in, unit_bits, unit_of}
-use Rattle.dfdl_checks.specs.Subjects.{is_complex, is_told, is_word, told_at}
+use Rattle.dfdl_checks.specs.Subjects.{is_by_expression, is_complex, is_explicit, is_word, told_at}
 use Rattle.dfdl_checks.specs.declared.purpose.Purpose.{Purpose}
 use Rattle.dfdl_checks.specs.declared.purpose.Purpose.TheVariants.{Parsing, Unparsing}
 use Rattle.dfdl_checks.specs.declared.subject.Kind.{Kind}
@@ -108,7 +108,7 @@ complex-is (PrefixNumber simple) is = grind (arith, is)
 pub box-kind : (s : Judged) (bits : ℕ) → size_of_box s ≡ Some bits → s.kind ≡ ComplexElement
 box-kind s bits is =
     let has = by-purpose s.purpose s bits is in
-    complex-is s.kind (first (is_complex s.kind) (is_told s (codes "lengthKind") (codes "explicit")) has.complex)
+    complex-is s.kind (first (is_complex s.kind) (is_explicit s && not (is_by_expression s)) has.complex)
   where
     first : (a b : Bool) → (a && b) ≡ true → a ≡ true
     first a b h = grind (arith, h)

@@ -20,6 +20,7 @@ pub mod SoundTexts
 pub mod Sound
 pub mod SoundPrefixes
 pub mod SoundPatterns
+pub mod SoundMeasures
 pub mod PatternBounds
 pub mod SoundNils
 pub mod DelimiterTexts

@@ -277,11 +277,16 @@ own-within Unparsing most length bits is = absurd (none-some _ is)
 
 -- the size of a field is one that its type has
 field-within : (s : Judged) (most bits : ℕ) → 1 ≤ most → field_bits s most ≡ Some bits → (1 ≤ bits) × (bits ≤ most)
-field-within s most bits some is = by (is_explicit s) is
+field-within s most bits some is = by (is_sized_by_data s) (is_explicit s) is
   where
-    by : (b : Bool) → (if b then own_size s.purpose most (constant_length s) else Some most) ≡ Some bits → (1 ≤ bits) × (bits ≤ most)
-    by true is = own-within s.purpose most (constant_length s) bits is
-    by false is = let e : most ≡ bits = some-is _ _ is in (omega (arith, e, some), omega (arith, e))
+    whole : Some most ≡ Some bits → (1 ≤ bits) × (bits ≤ most)
+    whole is = let e : most ≡ bits = some-is _ _ is in (omega (arith, e, some), omega (arith, e))
+
+    by : (d b : Bool) → (if d then Some most else if b then own_size s.purpose most (constant_length s) else Some most) ≡ Some bits
+        → (1 ≤ bits) × (bits ≤ most)
+    by true b is = whole is
+    by false true is = own-within s.purpose most (constant_length s) bits is
+    by false false is = whole is
 
 -- a decimal has few digits behind its point
 few-places : (t : Told) (places : ℕ) → places_told t ≡ Some places → places ≤ 38
@@ -331,13 +336,13 @@ one-nibble reps.Ibm4690 n is = (omega (arith, is), omega (arith, is))
 
 -- the nibbles of a field are as many as one of its representation can have
 nibbles-few : (s : Judged) (rep : PackedRep) (n : ℕ) → field_nibbles s rep ≡ Some n → (1 ≤ n) × (n ≤ most_nibbles rep)
-nibbles-few s rep n is = by (is_explicit s) (is_sized_by_data s) is
+nibbles-few s rep n is = by (is_sized_by_data s) (is_explicit s) is
   where
-    by : (b c : Bool) → (if b then nibbles_within rep (constant_length s) else if c then Some 1 else None) ≡ Some n → (1 ≤ n) × (n ≤ most_nibbles rep)
-    by true c is =
+    by : (b c : Bool) → (if b then Some 1 else if c then nibbles_within rep (constant_length s) else None) ≡ Some n → (1 ≤ n) × (n ≤ most_nibbles rep)
+    by true c is = one-nibble rep n (some-is _ _ is)
+    by false true is =
         whole-within (most_nibbles rep) (size_within (4 * most_nibbles rep) (constant_length s)) n
         (λ bits sized. within (4 * most_nibbles rep) (constant_length s) bits sized) is
-    by false true is = one-nibble rep n (some-is _ _ is)
     by false false is = absurd (none-some _ is)
 
 -- no field has more than 39 nibbles
@@ -454,14 +459,15 @@ ordered s p is = in-order s p (of-component s p is)
 
 -- for unparsing, a field has the size of its type
 whole-field : (s : Judged) (most bits : ℕ) → s.purpose ≡ Unparsing → field_bits s most ≡ Some bits → bits ≡ most
-whole-field s most bits purpose is = by (is_explicit s) is
+whole-field s most bits purpose is = by (is_sized_by_data s) (is_explicit s) is
   where
     no-size : own_size s.purpose most (constant_length s) ≡ Some bits → ⊥
     no-size is = none-some bits (sym (ap (λ p. own_size p most (constant_length s)) purpose) ∙ is)
 
-    by : (b : Bool) → (if b then own_size s.purpose most (constant_length s) else Some most) ≡ Some bits → bits ≡ most
-    by true is = absurd (no-size is)
-    by false is = sym (some-is _ _ is)
+    by : (d b : Bool) → (if d then Some most else if b then own_size s.purpose most (constant_length s) else Some most) ≡ Some bits → bits ≡ most
+    by true b is = sym (some-is _ _ is)
+    by false true is = absurd (no-size is)
+    by false false is = sym (some-is _ _ is)
 
 -- a number with the size of its type, whole bytes of them
 whole-size : (n : ℕ) (form : IntForm) → IsTrue (is_whole n) → form_of form.kind ≡ forms.Unsigned n → form.bits ≡ n → form.bits_by ≡ MostFirst

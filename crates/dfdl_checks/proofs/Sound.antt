@@ -10,11 +10,11 @@ use Rattle.dfdl_scope.specs.Scoping.{Told, Value, Absent, Twice}
 use Rattle.dfdl_scope.specs.Table.{Row, row, Range, Else, Missing, Words, property_table}
 use Rattle.dfdl_checks.proofs.Binary.{IsSound, IsSoundBinary, is-sound, is-sound-binary}
 use Rattle.dfdl_checks.proofs.BoxBounds.{none-some, some-is}
-use Rattle.dfdl_checks.proofs.Built.{all-hold, built-at, built-by, either-word, no-flaw, once-at, one-word}
+use Rattle.dfdl_checks.proofs.Built.{all-hold, built-by, either-word, no-flaw, once-at, one-word}
 use Rattle.dfdl_checks.proofs.Flawless.{HasNoFlaw, HasBuilt, value-built}
 use Rattle.dfdl_checks.proofs.Kept.{IsKept}
 use Rattle.dfdl_checks.proofs.Once.{is_twice}
-use Rattle.dfdl_checks.proofs.SoundBoxes.{as-octets, number-told, sized-is}
+use Rattle.dfdl_checks.proofs.SoundBoxes.{as-octets, length_row, lengths_of, number-told, plain-length, sized-is}
 use Rattle.dfdl_checks.proofs.SoundTexts.{as-text, truth-no-number}
 use Rattle.dfdl_checks.proofs.Told.{rep-of, rep-word}
 use Rattle.dfdl_checks.proofs.Types.{number-or-truth, plain-bits, represented-else, represented-value, truth-bits, whole-apart, whole-represented}
@@ -26,8 +26,8 @@ use Rattle.dfdl_checks.specs.Numbers.{binary_of_type, field_bits, field_nibbles,
 use Rattle.dfdl_checks.specs.Orders.{orders_of}
 use Rattle.dfdl_checks.specs.Packed.{codes_for, codes_told, is_strict, nibbles_within, rep_of, rep_told}
 use Rattle.dfdl_checks.specs.Rules.{are_truth_texts_other, first_breach, rules, has_falsity, has_size, has_truth, is_delimited_boolean, is_length_by_content, is_size, is_text_without_size, is_unsized}
-use Rattle.dfdl_checks.specs.Subjects.{has_point, has_representation, is_binary, is_binary_boolean, is_binary_number, is_boolean, is_explicit, is_explicit_binary, is_octets, is_packed, is_simple, is_sized_by_data, is_string, is_text, is_text_boolean, is_text_number, is_told, is_truths, is_word, number_bits, simple_of, told_at, value_bits}
-use Rattle.dfdl_checks.specs.Table.{Applicability, EachNumber, EveryValue, applicability_table, applies_by, built_for, word}
+use Rattle.dfdl_checks.specs.Subjects.{has_point, has_representation, is_binary, is_by_expression, is_expression_told, is_binary_boolean, is_binary_number, is_boolean, is_explicit, is_explicit_binary, is_octets, is_packed, is_simple, is_sized_by_data, is_string, is_text, is_text_boolean, is_text_number, is_told, is_truths, is_word, number_bits, simple_of, told_at, value_bits}
+use Rattle.dfdl_checks.specs.Table.{Applicability, EveryValue, applicability_table, applies_by, built_for, word}
 use Rattle.dfdl_checks.specs.Texts.{octets_of, text_of}
 use Rattle.dfdl_checks.specs.Values.{is_value, is_within}
 use Rattle.dfdl_checks.specs.declared.applicability.Bearers.TheVariants as bearers
@@ -41,12 +41,13 @@ some-length : (unit : ℕ) (number : Option ℕ) → is_some number ≡ true →
 some-length unit (Some n) some = refl
 some-length unit None some = grind (arith, some)
 
--- a value of explicit length has a constant one
-constant : (s : Judged) → IsKept s → is_explicit_binary s ≡ true → is_some (constant_length s) ≡ true
+-- a value of explicit length that no expression tells has a constant one
+constant : (s : Judged) → IsKept s → is_explicit_binary s ≡ true → is_expression_told (told_at s (codes "length")) ≡ false
+    → is_some (constant_length s) ≡ true
 unfolding applicability_table property_table
-constant s kept explicit =
+constant s kept explicit plain =
     some-length (unit_bits (told_at s (codes "lengthUnits"))) _
-    (number-told _ _ (built-at s kept 13 (codes "length") bearers.ExplicitBinaries EachNumber refl explicit _ refl refl))
+    (number-told _ _ (built-by s kept 13 (lengths_of bearers.ExplicitBinaries) refl explicit length_row refl refl) plain)
 
 -- the value that is told, or nothing
 abbrev written-in : Told → List ℕ
@@ -77,7 +78,7 @@ places s sound number = by (has_point (form_of sound.simple)) refl
     decimal : has_point (form_of sound.simple) ≡ true → is_some (places_told (told_at s (codes "binaryDecimalVirtualPoint"))) ≡ true
     decimal point =
         some-places (codes "binaryDecimalVirtualPoint") _
-        (no-flaw s sound.kept 66 (codes "binaryDecimalVirtualPoint") bearers.BinaryDecimals EveryValue refl
+        (no-flaw s sound.kept 67 (codes "binaryDecimalVirtualPoint") bearers.BinaryDecimals EveryValue refl
         (all-hold _ _ (sound.form.decimal ∙ point) number) _ refl)
         (once-at s sound.kept (codes "binaryDecimalVirtualPoint") _ refl)
 
@@ -121,11 +122,11 @@ no-number s sound truths =
     (ap (nat_lt 0) sound.form.number_size ∙ truth-no-number (form_of sound.simple) truths)
 
 module _ (s : Judged) (sound : IsSound s) (binary : IsSoundBinary s sound) where
-  -- its field can have it
-  sized : is_explicit s ≡ true → has_size s ≡ true
-  sized told =
-      third (is_explicit_binary s) (is_some (constant_length s)) (has_size s) (is_box_too_long s) explicit (constant s sound.kept explicit)
-      sound.kept.length
+  -- its field can have a length of its own that is constant
+  sized : is_explicit s ≡ true → is_sized_by_data s ≡ false → has_size s ≡ true
+  sized told apart =
+      third (is_explicit_binary s) (is_some (constant_length s)) (has_size s) (is_box_too_long s) explicit
+      (constant s sound.kept explicit (plain-length s apart told)) sound.kept.length
     where
       explicit : is_explicit_binary s ≡ true
       explicit = all-hold _ _ binary.is told
@@ -135,16 +136,18 @@ module _ (s : Judged) (sound : IsSound s) (binary : IsSoundBinary s sound) where
 
   -- the field of a value that isn't packed has a size
   some-size : (s.purpose ≡ Parsing → rep_of s ≡ None) → is_some (field_bits s (value_bits s.kind)) ≡ true
-  some-size plain = by (is_explicit s) refl
+  some-size plain = by (is_sized_by_data s) (is_explicit s) refl refl
     where
-      own : (purpose : Purpose) → s.purpose ≡ purpose → is_explicit s ≡ true → is_some (own_size purpose (value_bits s.kind) (constant_length s)) ≡ true
-      own Parsing is explicit = sym (ap (λ r. is_size r (value_bits s.kind) (constant_length s)) (plain is)) ∙ sized explicit
-      own Unparsing is explicit = let apart : true ≡ false = sym explicit ∙ binary.length.implicit is in grind (arith, apart)
+      own : (purpose : Purpose) → s.purpose ≡ purpose → is_explicit s ≡ true → is_sized_by_data s ≡ false
+          → is_some (own_size purpose (value_bits s.kind) (constant_length s)) ≡ true
+      own Parsing is explicit apart = sym (ap (λ r. is_size r (value_bits s.kind) (constant_length s)) (plain is)) ∙ sized explicit apart
+      own Unparsing is explicit apart = let broken : true ≡ false = sym explicit ∙ binary.length.implicit is in grind (arith, broken)
 
-      by : (b : Bool) → is_explicit s ≡ b
-          → is_some (if b then own_size s.purpose (value_bits s.kind) (constant_length s) else Some (value_bits s.kind)) ≡ true
-      by true explicit = own s.purpose refl explicit
-      by false explicit = refl
+      by : (d b : Bool) → is_sized_by_data s ≡ d → is_explicit s ≡ b
+          → is_some (if d then Some (value_bits s.kind) else if b then own_size s.purpose (value_bits s.kind) (constant_length s) else Some (value_bits s.kind)) ≡ true
+      by true b by_data told = refl
+      by false true apart explicit = own s.purpose refl explicit apart
+      by false false apart other = refl
 
   -- the same by the bits of the type
   size-of : (most : ℕ) → (s.purpose ≡ Parsing → rep_of s ≡ None) → value_bits s.kind ≡ most
@@ -153,7 +156,7 @@ module _ (s : Judged) (sound : IsSound s) (binary : IsSoundBinary s sound) where
 
   -- the nibbles of a packed number are whole, where it has a length of its own, and where it hasn't the data tell one
   some-nibbles : (rep : PackedRep) → is_binary_number s ≡ true → rep_of s ≡ Some rep → is_some (field_nibbles s rep) ≡ true
-  some-nibbles rep number is = by (is_explicit s) refl
+  some-nibbles rep number is = by (is_sized_by_data s) (is_explicit s) refl refl
     where
       sizeless : (a b c d e f g : Bool) → a ≡ true → d ≡ true → ((a && (b || ((c || d) && e))) || f || g) ≡ false → e ≡ false
       sizeless a b c d e f g x y z = grind (arith, x, y, z)
@@ -166,20 +169,22 @@ module _ (s : Judged) (sound : IsSound s) (binary : IsSoundBinary s sound) where
       last : (a b c d : Bool) → (a || b || c || d) ≡ true → a ≡ false → b ≡ false → (c || d) ≡ true
       last a b c d x y z = grind (arith, x, y, z)
 
-      first : (a b : Bool) → a ≡ true → (a || b) ≡ true
-      first a b x = grind (arith, x)
+      first : (a b c d : Bool) → (a || b) ≡ true → (a || b || c || d) ≡ true
+      first a b c d x = grind (arith, x)
 
       by-data : is_explicit s ≡ false → is_sized_by_data s ≡ true
       by-data other =
           sized-is s sound.form.simple
-          ∙ first (is_told s (codes "lengthKind") (codes "prefixed") || is_told s (codes "lengthKind") (codes "pattern")) _
+          ∙ first (is_told s (codes "lengthKind") (codes "prefixed")) (is_told s (codes "lengthKind") (codes "pattern"))
+          (is_told s (codes "lengthKind") (codes "delimited")) (is_by_expression s)
           (last (is_told s (codes "lengthKind") (codes "implicit")) (is_explicit s) (is_told s (codes "lengthKind") (codes "prefixed"))
           (is_told s (codes "lengthKind") (codes "pattern")) binary.length.kind no-implicit other)
 
-      by : (b : Bool) → is_explicit s ≡ b
-          → is_some (if b then nibbles_within rep (constant_length s) else if is_sized_by_data s then Some 1 else None) ≡ true
-      by true explicit = sym (ap (λ r. is_size r (value_bits s.kind) (constant_length s)) is) ∙ sized explicit
-      by false other = ap (λ p. is_some {T = ℕ} (if p then Some 1 else None)) (by-data other)
+      by : (d b : Bool) → is_sized_by_data s ≡ d → is_explicit s ≡ b
+          → is_some (if d then Some 1 else if b then nibbles_within rep (constant_length s) else None) ≡ true
+      by true b by_data told = refl
+      by false true apart explicit = sym (ap (λ r. is_size r (value_bits s.kind) (constant_length s)) is) ∙ sized explicit apart
+      by false false apart other = let broken : true ≡ false = sym (by-data other) ∙ apart in grind (arith, broken)
 
   -- its sign codes are some that are allowed
   some-signs : (rep : PackedRep) → is_binary_number s ≡ true → rep_of s ≡ Some rep

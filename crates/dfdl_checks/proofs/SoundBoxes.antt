@@ -8,7 +8,7 @@ use Rattle.dfdl_scope.specs.declared.row.Form.TheVariants as values
 use Rattle.dfdl_terms.specs.Rows.{most_length}
 use Rattle.dfdl_terms.specs.declared.row.Primitive.{Primitive}
 use Rattle.dfdl_checks.proofs.Binary.{IsSound}
-use Rattle.dfdl_checks.proofs.Built.{all-hold, built-at}
+use Rattle.dfdl_checks.proofs.Built.{all-hold, built-at, built-by}
 use Rattle.dfdl_checks.proofs.Flawless.{HasBuilt}
 use Rattle.dfdl_checks.proofs.Kept.{IsKept, keeps-all}
 use Rattle.dfdl_checks.proofs.LengthKinds.{boxed-length, is_boxed_kind_told}
@@ -20,25 +20,48 @@ use Rattle.dfdl_checks.specs.Lengths.{number_told}
 use Rattle.dfdl_checks.specs.Numbers.{IsTextOrBytesValue}
 use Rattle.dfdl_checks.specs.Orders.{field_order}
 use Rattle.dfdl_checks.specs.Rules.{first_breach, rules, is_delimited_boolean, is_field_out_of_range, is_number_length_not_allowed}
-use Rattle.dfdl_checks.specs.Subjects.{has_delimited_length, is_boolean, is_boxed, is_complex, is_explicit, is_without_length, is_hex_binary, is_bare, is_simple, is_sized_by_data, is_string, is_text, is_text_boolean, is_text_number, is_told, number_bits, told_at}
-use Rattle.dfdl_checks.specs.Table.{EachNumber, EveryValue, applicability_table}
+use Rattle.dfdl_checks.specs.Subjects.{has_delimited_length, is_boolean, is_boxed, is_by_expression, is_by_pattern, is_complex, is_explicit, is_expression_told, is_prefixed, is_without_length, is_hex_binary, is_bare, is_simple, is_sized_by_data, is_string, is_text, is_text_boolean, is_text_number, is_told, number_bits, told_at}
+use Rattle.dfdl_checks.specs.Table.{Applicability, Built, EachNumber, EveryValue, applicability_table, applies_by}
 use Rattle.dfdl_checks.specs.Texts.{delimited_octets, octets_by, octets_of}
+use Rattle.dfdl_checks.specs.Values.{is_number}
+use Rattle.dfdl_checks.specs.declared.applicability.Bearers.{Bearers}
 use Rattle.dfdl_checks.specs.declared.applicability.Bearers.TheVariants as bearers
 use Rattle.dfdl_checks.specs.declared.purpose.Purpose.TheVariants.{Parsing}
 use Rattle.dfdl_checks.specs.declared.subject.Kind.{Kind}
 use Rattle.dfdl_checks.specs.declared.subject.Kind.TheVariants.{ComplexElement, SimpleElement, UncarriedElement, CalculatedElement, Sequence, HiddenSequence, Choice, PrefixNumber}
 
--- a number is told where a number is built
-pub number-told : (r : Row) (t : Told) → HasBuilt r EachNumber t → is_some (number_told t) ≡ true
-number-told r t has =
-    subst (λ t. is_some (number_told t) ≡ true) (sym has.is)
-    (ap (λ b. is_some (if b then Some (digits_value 10 (literal has.written)) else None)) has.built_is)
+-- the row of a length
+abbrev pub length_row : Row
+length_row = row (codes "length") (Formed values.NumberOrExpression) Missing
 
--- an explicit length is a number
-own-number : (s : Judged) → IsKept s → is_explicit_box s ≡ true → is_some (number_told (told_at s (codes "length"))) ≡ true
+-- which of its values are built
+abbrev pub lengths_of : Bearers → Applicability
+lengths_of b = applies_by (codes "length") b EveryValue EachNumber
+
+-- a length that is told and is no expression is a number
+pub number-told : (built : Built) (t : Told) → HasBuilt length_row built t → is_expression_told t ≡ false → is_some (number_told t) ≡ true
+number-told built t has plain =
+    subst (λ t. is_some (number_told t) ≡ true) (sym has.is)
+    (ap (λ b. is_some (if b then Some (digits_value 10 (literal has.written)) else None))
+    (digits (is_expression has.written) (is_number (literal has.written)) (sym (ap is_expression_told has.is) ∙ plain) has.value))
+  where
+    digits : (e n : Bool) → e ≡ false → (if e then true else n) ≡ true → n ≡ true
+    digits e n x y = grind (arith, x, y)
+
+-- an explicit length that is no expression is a number
+own-number : (s : Judged) → IsKept s → is_explicit_box s ≡ true → is_expression_told (told_at s (codes "length")) ≡ false
+    → is_some (number_told (told_at s (codes "length"))) ≡ true
 unfolding applicability_table property_table
-own-number s kept explicit =
-    number-told _ _ (built-at s kept 14 (codes "length") bearers.ExplicitBoxes EachNumber refl explicit _ refl refl)
+own-number s kept explicit plain =
+    number-told _ _ (built-by s kept 14 (lengths_of bearers.ExplicitBoxes) refl explicit length_row refl refl) plain
+
+-- where the data don't tell the length, it is no expression
+pub plain-length : (s : Judged) → is_sized_by_data s ≡ false → is_explicit s ≡ true → is_expression_told (told_at s (codes "length")) ≡ false
+plain-length s apart explicit =
+    last (is_prefixed s) (is_by_pattern s) (has_delimited_length s) (is_explicit s) (is_expression_told (told_at s (codes "length"))) explicit apart
+  where
+    last : (a b c d e : Bool) → d ≡ true → (a || b || c || (d && e)) ≡ false → e ≡ false
+    last a b c d e x y = grind (arith, x, y)
 
 -- an implicit one is that of the type
 type-number : (s : Judged) → IsKept s → is_implicit_box s ≡ true → is_some s.facts.max_length ≡ true
@@ -76,38 +99,38 @@ some-units s kept boxed sized = by (is_explicit s) (is_sized_by_data s) refl ref
     first a b x = grind (arith, x)
 
     by : (e p : Bool) → is_explicit s ≡ e → is_sized_by_data s ≡ p → is_some (box_units s) ≡ true
-    by true p explicit sized_so =
+    by e true told sized_so =
+        ap (λ p. is_some (units_within (box_unit s) (if p then Some 0 else if is_explicit s then number_told (told_at s (codes "length")) else s.facts.max_length))) sized_so
+        ∙ no-units (box_unit s)
+    by true false explicit apart =
         let own = all-hold _ _ boxed explicit in
         not-past s kept (first _ (is_implicit_box s) own)
-        (ap (λ e. is_some (if e then number_told (told_at s (codes "length")) else if is_sized_by_data s then Some 0 else s.facts.max_length)) explicit
-        ∙ own-number s kept own)
-    by false true other sized_so =
-        ap (λ e. is_some (units_within (box_unit s) (if e then number_told (told_at s (codes "length")) else if is_sized_by_data s then Some 0 else s.facts.max_length))) other
-        ∙ ap (λ p. is_some (units_within (box_unit s) (if p then Some 0 else s.facts.max_length))) sized_so
-        ∙ no-units (box_unit s)
+        (ap (λ p. is_some (if p then Some 0 else if is_explicit s then number_told (told_at s (codes "length")) else s.facts.max_length)) apart
+        ∙ ap (λ e. is_some (if e then number_told (told_at s (codes "length")) else s.facts.max_length)) explicit
+        ∙ own-number s kept own (plain-length s apart explicit))
     by false false other apart =
         let implicit = last (is_explicit s) (is_sized_by_data s) (is_implicit_box s) other apart sized in
         not-past s kept (second (is_explicit_box s) _ implicit)
-        (ap (λ e. is_some (if e then number_told (told_at s (codes "length")) else if is_sized_by_data s then Some 0 else s.facts.max_length)) other
-        ∙ ap (λ p. is_some (if p then Some 0 else s.facts.max_length)) apart
+        (ap (λ p. is_some (if p then Some 0 else if is_explicit s then number_told (told_at s (codes "length")) else s.facts.max_length)) apart
+        ∙ ap (λ e. is_some (if e then number_told (told_at s (codes "length")) else s.facts.max_length)) other
         ∙ type-number s kept implicit)
 
 pub some-mapped : {A B : Type 0} (f : A → B) (o : Option A) → is_some o ≡ true → is_some (option_map f o) ≡ true
 some-mapped f (Some a) some = refl
 some-mapped f None some = grind (arith, some)
 
--- a complex element with a length of its own has a box
+-- a complex element with a constant length of its own has a box
 pub has-box : (s : Judged) → first_breach rules s ≡ None → s.purpose ≡ Parsing → IsTrue (is_explicit_complex s) → IsSome (size_of_box s)
 has-box s none purpose explicit =
     ap (λ p. is_some (size_for p s)) purpose
     ∙ (ap (λ b. is_some (if b then box_bits s else None)) explicit ∙ some-mapped _ (box_units s) units)
   where
-    parts : (a b c d e f : Bool) → (c && d) ≡ true → ((a || b || c) ≡ true) × ((d || e || f) ≡ true)
-    parts a b c d e f h = (grind (arith, h), grind (arith, h))
+    parts : (a b c d e f x : Bool) → (c && (d && x)) ≡ true → ((a || b || c) ≡ true) × ((d || e || f) ≡ true)
+    parts a b c d e f x h = (grind (arith, h), grind (arith, h))
 
     units : is_some (box_units s) ≡ true
     units =
-        let has = parts (is_text s) (is_hex_binary s.kind) (is_complex s.kind) (is_explicit s) (is_sized_by_data s) (is_implicit_box s) explicit in
+        let has = parts (is_text s) (is_hex_binary s.kind) (is_complex s.kind) (is_explicit s) (is_sized_by_data s) (is_implicit_box s) _ explicit in
         some-units s (keeps-all s none) has.0 has.1
 
 -- a simple element with a representation may have a length
@@ -121,14 +144,15 @@ with-length HiddenSequence is = grind (arith, is)
 with-length Choice is = grind (arith, is)
 with-length (PrefixNumber simple) is = refl
 
--- of a simple element whose length the data tell, a length prefix, a pattern or a delimited length is told
+-- of a simple element whose length the data tell, a length prefix, a pattern, a delimited length or an expression is told
 pub sized-is : (s : Judged) → is_simple s.kind ≡ true
     → is_sized_by_data s
-    ≡ (is_told s (codes "lengthKind") (codes "prefixed") || is_told s (codes "lengthKind") (codes "pattern") || is_told s (codes "lengthKind") (codes "delimited"))
+    ≡ (is_told s (codes "lengthKind") (codes "prefixed") || is_told s (codes "lengthKind") (codes "pattern") || is_told s (codes "lengthKind") (codes "delimited")
+    || is_by_expression s)
 sized-is s simple =
     ap
     (λ b. (not b && is_told s (codes "lengthKind") (codes "prefixed")) || (not b && is_told s (codes "lengthKind") (codes "pattern"))
-    || (not b && is_told s (codes "lengthKind") (codes "delimited")))
+    || (not b && is_told s (codes "lengthKind") (codes "delimited")) || is_by_expression s)
     (with-length s.kind simple)
 
 -- a text or bytes stand in a box
@@ -146,7 +170,7 @@ value-units s sound is =
     (subst (λ p. (is_explicit s || p || is_implicit_box s) ≡ true) (sym (sized-is s sound.form.simple))
     (one (is_string s.kind) (is_text_number s) (is_text_boolean s) (is_hex_binary s.kind) (is_told s (codes "lengthKind") (codes "implicit"))
     (is_explicit s) (is_told s (codes "lengthKind") (codes "prefixed")) (is_told s (codes "lengthKind") (codes "pattern"))
-    (is_told s (codes "lengthKind") (codes "delimited")) is (value-length s sound.kept is) not-implicit))
+    (is_told s (codes "lengthKind") (codes "delimited")) (is_by_expression s) is (value-length s sound.kept is) not-implicit))
   where
     third : (a b c : Bool) → (a || b || c) ≡ false → c ≡ false
     third a b c h = grind (arith, h)
@@ -154,9 +178,9 @@ value-units s sound is =
     not-implicit : ((is_text_number s || is_text_boolean s) && is_told s (codes "lengthKind") (codes "implicit")) ≡ false
     not-implicit = third (is_number_length_not_allowed s) (is_delimited_boolean s) _ sound.kept.length_kind
 
-    one : (a b c d i e p q r : Bool) → (a || b || c || d) ≡ true → (i || e || p || q || r) ≡ true → ((b || c) && i) ≡ false
-        → (e || (p || q || r) || ((a || d) && i)) ≡ true
-    one a b c d i e p q r x y z = grind (arith, x, y, z)
+    one : (a b c d i e p q r m : Bool) → (a || b || c || d) ≡ true → (i || e || p || q || r) ≡ true → ((b || c) && i) ≡ false
+        → (e || (p || q || r || m) || ((a || d) && i)) ≡ true
+    one a b c d i e p q r m x y z = grind (arith, x, y, z)
 
 -- so bytes have a primitive
 pub as-octets : (s : Judged) → IsSound s → is_hex_binary s.kind ≡ true → is_some (octets_of s) ≡ true

@@ -80,7 +80,7 @@ module _ (s : Judged) (kept : IsKept s) (nillable : is_nillable s ≡ true) wher
   unfolding applicability_table property_table
   one-kind =
       one-of-three (codes "literalValue") (codes "literalCharacter") (codes "logicalValue") (codes "nilKind") _
-      (built-at s kept 67 (codes "nilKind") bearers.NillableElements EveryValue refl nillable _ refl refl)
+      (built-at s kept 68 (codes "nilKind") bearers.NillableElements EveryValue refl nillable _ refl refl)
 
   by-character : is_nil_by_value s ≡ false → is_nil_by_literals s ≡ false → is_nil_by_character s ≡ true
   by-character no-value other =
@@ -102,7 +102,7 @@ module _ (s : Judged) (kept : IsKept s) (nillable : is_nillable s ≡ true) wher
   as-literals : (is_nil_by_literals s || is_nil_by_value s) ≡ true → is_some (nil_literals s) ≡ true
   unfolding applicability_table property_table
   as-literals literals =
-      some-literals (codes "nilValue") _ (built-at s kept 68 (codes "nilValue") bearers.NillableElements EveryValue refl nillable _ refl refl)
+      some-literals (codes "nilValue") _ (built-at s kept 69 (codes "nilValue") bearers.NillableElements EveryValue refl nillable _ refl refl)
       (first (is_nil_by_literals s || is_nil_by_value s) _ _ literals well-formed)
     where
       first : (a b c : Bool) → a ≡ true → ((a && b) || c) ≡ false → b ≡ false

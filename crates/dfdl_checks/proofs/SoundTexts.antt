@@ -84,7 +84,7 @@ some-pattern : (s : Judged) → IsKept s → (is_zoned s || (is_standard s && ba
 unfolding applicability_table property_table
 some-pattern s kept is =
     pattern-told (codes "textNumberPattern") _
-    (built-at s kept 52 (codes "textNumberPattern") bearers.PatternNumbers EveryValue refl is _ refl refl)
+    (built-at s kept 53 (codes "textNumberPattern") bearers.PatternNumbers EveryValue refl is _ refl refl)
 
 -- the pattern of a zoned number of the type, where it is told, has a form
 abbrev IsZonedKept : Judged → Simple → Type 0
@@ -149,7 +149,7 @@ module _ (s : Judged) (kept : IsKept s) (standard : is_standard s ≡ true) wher
   unfolding applicability_table property_table
   some-decimal =
       separator-told (codes "textStandardDecimalSeparator") (Else (codes ".")) 46 _
-      (no-flaw s kept 54 (codes "textStandardDecimalSeparator") bearers.StandardNumbers EveryValue refl standard _ refl)
+      (no-flaw s kept 55 (codes "textStandardDecimalSeparator") bearers.StandardNumbers EveryValue refl standard _ refl)
       (once-at s kept (codes "textStandardDecimalSeparator") _ refl) (neither (is_malformed (decimal_at s)) (is_malformed (grouping_at s)) written).0
       (neither (is_other_told (told_at s (codes "textStandardDecimalSeparator"))) (is_other_told (told_at s (codes "textStandardGroupingSeparator"))) others).0
 
@@ -157,7 +157,7 @@ module _ (s : Judged) (kept : IsKept s) (standard : is_standard s ≡ true) wher
   unfolding applicability_table property_table
   some-grouping =
       separator-told (codes "textStandardGroupingSeparator") (Else (codes ",")) 44 _
-      (no-flaw s kept 55 (codes "textStandardGroupingSeparator") bearers.StandardNumbers EveryValue refl standard _ refl)
+      (no-flaw s kept 56 (codes "textStandardGroupingSeparator") bearers.StandardNumbers EveryValue refl standard _ refl)
       (once-at s kept (codes "textStandardGroupingSeparator") _ refl) (neither (is_malformed (decimal_at s)) (is_malformed (grouping_at s)) written).1
       (neither (is_other_told (told_at s (codes "textStandardDecimalSeparator"))) (is_other_told (told_at s (codes "textStandardGroupingSeparator"))) others).1
 

@@ -132,7 +132,7 @@ are-values s none is = record {
       where
         as-integer : IsIntegerOf s form → is_told s (codes "binaryNumberRep") (codes "binary") ≡ true
         as-integer of =
-            binary-word s.purpose (told_at s (codes "binaryNumberRep")) (built-by s sound.kept 63 reps refl (is-number form of) rep_row refl refl)
+            binary-word s.purpose (told_at s (codes "binaryNumberRep")) (built-by s sound.kept 64 reps refl (is-number form of) rep_row refl refl)
             (λ parsing. none-told s (is-number form of) (of.plain parsing))
 
     packed : (form : PackedForm) → primitive_of s ≡ Some (primitives.Packed form) → IsTrue (is_told s (codes "binaryNumberRep") (rep_word form.rep))

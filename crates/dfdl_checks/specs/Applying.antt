@@ -3,7 +3,7 @@ use Rattle.std.specs.Prelude.{Bool, not, nat_lt, ◌==◌, ◌&&◌, ◌||◌, c
 use Rattle.dfdl_checks.specs.Boxes.{is_explicit_box, is_implicit_string}
 use Rattle.dfdl_checks.specs.Delimiters.{is_delimited, is_separated}
 use Rattle.dfdl_checks.specs.Nils.{is_nil_by_value}
-use Rattle.dfdl_checks.specs.Occurrences.{is_counted}
+use Rattle.dfdl_checks.specs.Occurrences.{is_counted, is_counted_by_expression}
 use Rattle.dfdl_checks.specs.Orders.{is_least_first}
 use Rattle.dfdl_checks.specs.NumberTexts.{base_of}
 use Rattle.dfdl_checks.specs.Pads.{is_padded_text}
@@ -11,7 +11,7 @@ use Rattle.dfdl_checks.specs.Subjects.{is_any_element, is_bare, is_boxed, is_del
 use Rattle.dfdl_checks.specs.Judged.{Judged}
 use Rattle.dfdl_checks.specs.Tests.{is_tested}
 use Rattle.dfdl_checks.specs.declared.applicability.Bearers.{Bearers}
-use Rattle.dfdl_checks.specs.declared.applicability.Bearers.TheVariants.{EveryComponent, FramedComponents, Elements, OtherElements, SimpleElements, NillableElements, TextNillables, RepresentedElements, BoxedElements, Strings, PaddedStrings, PaddedBooleans, PaddedNumbers, BinaryNumbers, BinaryBooleans, OrderedBinaries, ExplicitBinaries, ExplicitBoxes, ImplicitStrings, PrefixedElements, Texts, TextNumbers, TextBooleans, StandardNumbers, ZonedNumbers, PatternNumbers, LooseTexts, PackedNumbers, BinaryDecimals, PatternElements, DelimitedBytes, DelimitedComponents, Groups, Sequences, SeparatedSequences, EmptySequences, Choices, CountedElements, TestedComponents}
+use Rattle.dfdl_checks.specs.declared.applicability.Bearers.TheVariants.{EveryComponent, FramedComponents, Elements, OtherElements, SimpleElements, NillableElements, TextNillables, RepresentedElements, BoxedElements, Strings, PaddedStrings, PaddedBooleans, PaddedNumbers, BinaryNumbers, BinaryBooleans, OrderedBinaries, ExplicitBinaries, ExplicitBoxes, ImplicitStrings, PrefixedElements, Texts, TextNumbers, TextBooleans, StandardNumbers, ZonedNumbers, PatternNumbers, LooseTexts, PackedNumbers, BinaryDecimals, PatternElements, DelimitedBytes, DelimitedComponents, Groups, Sequences, SeparatedSequences, EmptySequences, Choices, CountedElements, CountedByExpression, TestedComponents}
 
 -- a binary number or boolean whose bytes have an order: of a type with more than 8 bits, or with its least significant bits
 -- first
@@ -58,4 +58,5 @@ is_bearer SeparatedSequences subject = is_separated subject
 is_bearer EmptySequences subject = is_hidden subject.kind || (is_sequence subject.kind && subject.facts.is_empty)
 is_bearer Choices subject = is_choice subject.kind
 is_bearer CountedElements subject = is_counted subject
+is_bearer CountedByExpression subject = is_counted_by_expression subject
 is_bearer TestedComponents subject = is_tested subject

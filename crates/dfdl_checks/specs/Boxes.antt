@@ -4,7 +4,7 @@ use Rattle.dfdl_terms.specs.Rows.{most_length}
 use Rattle.dfdl_checks.specs.Encodings.{character_bits, encoding_told}
 use Rattle.dfdl_checks.specs.Judged.{Judged}
 use Rattle.dfdl_checks.specs.Lengths.{length_in, number_told, unit_bits}
-use Rattle.dfdl_checks.specs.Subjects.{is_boxed, is_complex, is_explicit, is_sized_by_data, is_string, is_string_or_bytes, is_text, is_told, told_at}
+use Rattle.dfdl_checks.specs.Subjects.{is_boxed, is_by_expression, is_complex, is_explicit, is_sized_by_data, is_string, is_string_or_bytes, is_text, is_told, told_at}
 use Rattle.dfdl_checks.specs.declared.purpose.Purpose.{Purpose}
 use Rattle.dfdl_checks.specs.declared.purpose.Purpose.TheVariants.{Parsing, Unparsing}
 
@@ -42,8 +42,8 @@ box_unit subject = if counts_units subject then told_unit subject else 8
 -- them, none stand for them.
 abbrev pub box_number : Judged → Option ℕ
 box_number subject =
-    if is_explicit subject then number_told (told_at subject (codes "length"))
-    else if is_sized_by_data subject then Some 0
+    if is_sized_by_data subject then Some 0
+    else if is_explicit subject then number_told (told_at subject (codes "length"))
     else subject.facts.max_length
 
 -- a number of units of so many bits, where they aren't past the greatest length
@@ -67,15 +67,15 @@ is_past_most subject = is_some (box_number subject) && not (is_some (box_units s
 abbrev pub is_box_too_long : Judged → Bool
 is_box_too_long subject = (is_explicit_box subject || is_implicit_box subject) && is_past_most subject
 
--- a complex element with a length of its own
+-- a complex element with a length of its own that is constant
 abbrev pub is_explicit_complex : Judged → Bool
-is_explicit_complex subject = is_complex subject.kind && is_explicit subject
+is_explicit_complex subject = is_complex subject.kind && (is_explicit subject && not (is_by_expression subject))
 
 -- how many bits the box of a complex element has, which is built for parsing
 abbrev pub size_for : Purpose → Judged → Option ℕ
 size_for Parsing subject = if is_explicit_complex subject then box_bits subject else None
 size_for Unparsing subject = None
 
--- how many bits the box has around the content of a complex element with a length of its own; no other component has one
+-- how many bits the box has around the content of a complex element with a constant length of its own; no other component has one
 abbrev pub size_of_box : Judged → Option ℕ
 size_of_box subject = size_for subject.purpose subject

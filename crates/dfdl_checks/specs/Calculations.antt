@@ -1,11 +1,10 @@
 -- The values of elements that are calculated ('Calculated Values'). For parsing an element with an expression inputValueCalc has no
 -- representation, and outputValueCalc has no effect; for unparsing neither is built.
 use Rattle.std.specs.Prelude.{ℕ, List, Bool, true, false, not, ◌&&◌, ◌||◌, Option, Some, None, codes}
-use Rattle.dfdl_scope.specs.Expressions.{is_expression}
 use Rattle.dfdl_scope.specs.Scoping.{Element, Told, Value, Absent, Twice, told}
 use Rattle.dfdl_checks.specs.Judged.{FactsJudged, Judged}
 use Rattle.dfdl_checks.specs.Occurrences.{is_once}
-use Rattle.dfdl_checks.specs.Subjects.{is_any_element, told_at}
+use Rattle.dfdl_checks.specs.Subjects.{is_any_element, is_expression_told, told_at}
 use Rattle.dfdl_checks.specs.declared.purpose.Purpose.{Purpose}
 use Rattle.dfdl_checks.specs.declared.purpose.Purpose.TheVariants.{Parsing, Unparsing}
 use Rattle.dfdl_checks.specs.declared.subject.Kind.{Kind}
@@ -16,12 +15,6 @@ abbrev pub is_given : Told → Bool
 is_given (Value written) = true
 is_given Absent = false
 is_given (Twice place) = false
-
--- an expression is told
-abbrev pub is_expression_told : Told → Bool
-is_expression_told (Value written) = is_expression written
-is_expression_told Absent = false
-is_expression_told (Twice place) = false
 
 -- what is told, as it is written
 abbrev pub written_told : Told → Option (List ℕ)

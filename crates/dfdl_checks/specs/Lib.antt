@@ -29,6 +29,7 @@ pub mod Texts
 pub mod Numbers
 pub mod Prefixes
 pub mod Patterns
+pub mod Measures
 pub mod Representations
 pub mod Rules
 pub mod Framing

@@ -54,7 +54,10 @@ own_size Unparsing most length = None
 -- How many bits the component's field has, where its type has at most so many: its own length, else as many as the type, which also
 -- stand for those that the data tell.
 abbrev pub field_bits : Judged → ℕ → Option ℕ
-field_bits subject most = if is_explicit subject then own_size subject.purpose most (constant_length subject) else Some most
+field_bits subject most =
+    if is_sized_by_data subject then Some most
+    else if is_explicit subject then own_size subject.purpose most (constant_length subject)
+    else Some most
 
 -- a number of the type, in these orders, with so many bits and so many digits behind its point
 abbrev pub number_by : Simple → Orders → Option ℕ → Option ℕ → Option Primitive
@@ -72,8 +75,8 @@ number_of_type subject simple =
 -- tell them, one stands for them.
 abbrev pub field_nibbles : Judged → PackedRep → Option ℕ
 field_nibbles subject rep =
-    if is_explicit subject then nibbles_within rep (constant_length subject)
-    else if is_sized_by_data subject then Some 1
+    if is_sized_by_data subject then Some 1
+    else if is_explicit subject then nibbles_within rep (constant_length subject)
     else None
 
 -- a packed number of the type, in these orders, with so many nibbles, these sign codes and so many digits behind its point

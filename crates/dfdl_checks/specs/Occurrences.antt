@@ -38,6 +38,14 @@ are_bounds_unfit subject =
 abbrev pub is_parsed : Judged → Bool
 is_parsed subject = is_told subject (codes "occursCountKind") (codes "parsed")
 
+-- an expression tells how often the element occurs, whatever its bounds are
+abbrev pub is_count_asked : Judged → Bool
+is_count_asked subject = is_told subject (codes "occursCountKind") (codes "expression")
+
+-- an element with other bounds than 1 and 1 that occurs as often as an expression tells
+abbrev pub is_counted_by_expression : Judged → Bool
+is_counted_by_expression subject = is_counted subject && is_count_asked subject
+
 -- So many required occurrences. Past 32 bits they are the greatest number of these: each occurrence is an element of the infoset, and
 -- there are never so many.
 abbrev pub within_word : ℕ → ℕ
@@ -69,11 +77,16 @@ occurs_within bounds = record {
 abbrev pub occurs_any : Occurs
 occurs_any = record { least = 0; further = unbounded; is_item = true }
 
--- how often an element occurs whose bounds aren't both 1, by the kind of its count: implicit, where it is neither fixed nor parsed
+-- as often as an expression tells: no bounds require an occurrence, and none is tried
+abbrev pub occurs_told : Occurs
+occurs_told = record { least = 0; further = 0; is_item = true }
+
+-- how often an element occurs whose bounds aren't both 1, by the kind of its count: implicit, where it is none of the others
 abbrev pub occurrences_by_kind : Judged → Occurs
 occurrences_by_kind subject =
     if is_fixed subject then required_times (count_of subject.facts.bounds.most)
     else if is_parsed subject then occurs_any
+    else if is_count_asked subject then occurs_told
     else occurs_within subject.facts.bounds
 
 -- how often an element occurs, where it breaks no rule: for unparsing once

@@ -28,7 +28,7 @@ use Rattle.dfdl_checks.specs.Pads.{is_malformed, is_other, is_other_told, is_out
 use Rattle.dfdl_forms.specs.NumberForms.{are_plain}
 use Rattle.dfdl_forms.specs.declared.number_pattern.NumberPattern.{NumberPattern}
 use Rattle.dfdl_checks.specs.Packed.{codes_told, nibbles_within, rep_of}
-use Rattle.dfdl_checks.specs.Occurrences.{are_bounds_unfit, is_once, is_required, is_tried}
+use Rattle.dfdl_checks.specs.Occurrences.{are_bounds_unfit, is_counted_by_expression, is_once, is_required, is_tried}
 use Rattle.dfdl_checks.specs.Prefixes.{is_name_told, is_no_prefix_type, is_not_whole, prefix_subject}
 use Rattle.dfdl_checks.specs.Subjects.{is_boxed, is_delimited_bytes, is_element, is_choice, is_bare, is_binary, is_binary_boolean, is_binary_number, is_decimal, is_explicit, is_explicit_binary, is_packed, is_prefixed, is_simple, is_standard, is_text, is_text_boolean, is_text_number, is_told, is_zoned, told_at, value_bits}
 use Rattle.dfdl_checks.specs.Standings.{is_initiator_missing, is_unbounded_not_allowed}
@@ -53,10 +53,14 @@ abbrev pub is_later_group : Purpose → Kind → Bool
 is_later_group Parsing kind = false
 is_later_group Unparsing kind = is_choice kind
 
--- for parsing, an element with a default of whose occurrences some are required, which take it, and others tried, which don't; for
--- unparsing, one that does not occur exactly once, that may be nil or that has a default
+-- some of the component's occurrences are required, which take a default, and others tried, which don't; or an expression counts them
+abbrev pub are_defaults_apart : Judged → Bool
+are_defaults_apart subject = (is_required subject && is_tried subject) || is_counted_by_expression subject
+
+-- for parsing, an element with a default of whose occurrences some are required, which take it, and others tried, which don't, or
+-- whose occurrences an expression counts; for unparsing, one that does not occur exactly once, that may be nil or that has a default
 abbrev pub is_later_element : Purpose → Judged → Bool
-is_later_element Parsing subject = is_some subject.facts.default && (is_required subject && is_tried subject)
+is_later_element Parsing subject = is_some subject.facts.default && are_defaults_apart subject
 is_later_element Unparsing subject = not (is_once subject.facts.bounds) || subject.facts.is_nillable || is_some subject.facts.default
 
 -- a component of a kind that is built later, whatever its properties are but for the kind of its count

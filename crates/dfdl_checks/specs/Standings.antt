@@ -3,7 +3,7 @@
 use Rattle.std.specs.Prelude.{ℕ, Bool, true, false, not, ◌&&◌, ◌||◌, Option, Some, None, codes}
 use Rattle.dfdl_checks.specs.Delimiters.{has_delimiter}
 use Rattle.dfdl_checks.specs.Judged.{Judged}
-use Rattle.dfdl_checks.specs.Occurrences.{is_fixed, is_parsed}
+use Rattle.dfdl_checks.specs.Occurrences.{is_count_asked, is_fixed, is_parsed}
 use Rattle.dfdl_checks.specs.Subjects.{is_calculated, is_element, is_plain_group, is_told}
 use Rattle.dfdl_checks.specs.declared.purpose.Purpose.{Purpose}
 use Rattle.dfdl_checks.specs.declared.purpose.Purpose.TheVariants.{Parsing, Unparsing}
@@ -25,7 +25,8 @@ is_endless (Some most) = false
 abbrev pub is_unbounded_not_allowed : Judged → Bool
 is_unbounded_not_allowed subject =
     subject.standing.needs_bound
-    && (is_element subject.kind && (is_endless subject.facts.bounds.most && (not (is_fixed subject) && not (is_parsed subject))))
+    && (is_element subject.kind
+    && (is_endless subject.facts.bounds.most && (not (is_fixed subject) && (not (is_parsed subject) && not (is_count_asked subject)))))
 
 -- the content of a group is initiated; for unparsing it isn't built
 abbrev pub initiates_for : Purpose → Judged → Bool

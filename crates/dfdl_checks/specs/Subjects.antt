@@ -6,7 +6,7 @@ use Rattle.dfdl_forms.specs.Types.{form_of}
 use Rattle.dfdl_forms.specs.declared.simple.Form.{Form}
 use Rattle.dfdl_forms.specs.declared.simple.Simple.{Simple}
 use Rattle.dfdl_forms.specs.declared.simple.Form.TheVariants.{Signed, Unsigned, Fixed, Characters, Truths, Octets}
-use Rattle.dfdl_scope.specs.Expressions.{literal}
+use Rattle.dfdl_scope.specs.Expressions.{is_expression, literal}
 use Rattle.dfdl_scope.specs.Scoping.{Told, Value, Absent, Twice, told}
 use Rattle.dfdl_checks.specs.declared.subject.Kind.{Kind}
 use Rattle.dfdl_checks.specs.declared.subject.Kind.TheVariants.{ComplexElement, SimpleElement, UncarriedElement, CalculatedElement, Sequence, HiddenSequence, Choice, PrefixNumber}
@@ -182,6 +182,12 @@ is_word word (Value written) = bytes_eq (literal written) word
 is_word word Absent = false
 is_word word (Twice place) = false
 
+-- an expression is told
+abbrev pub is_expression_told : Told → Bool
+is_expression_told (Value written) = is_expression written
+is_expression_told Absent = false
+is_expression_told (Twice place) = false
+
 -- a binary number: of an integer or decimal type, and its representation is binary
 abbrev pub is_binary_number : Judged → Bool
 is_binary_number subject = nat_lt 0 (number_bits subject.kind) && is_word (codes "binary") (told_at subject (codes "representation"))
@@ -209,6 +215,10 @@ is_packed subject = is_binary_number subject && is_told subject (codes "binaryNu
 -- the length is the component's own
 abbrev pub is_explicit : Judged → Bool
 is_explicit subject = is_told subject (codes "lengthKind") (codes "explicit")
+
+-- the length is the component's own, by an expression
+abbrev pub is_by_expression : Judged → Bool
+is_by_expression subject = is_explicit subject && is_expression_told (told_at subject (codes "length"))
 
 -- a text number: an integer or decimal whose representation is text
 abbrev pub is_text_number : Judged → Bool
@@ -251,9 +261,9 @@ is_prefixed subject = not (is_without_length subject.kind) && is_told subject (c
 abbrev pub has_delimited_length : Judged → Bool
 has_delimited_length subject = not (is_without_length subject.kind) && is_told subject (codes "lengthKind") (codes "delimited")
 
--- the data tell the length, by a prefix, by what a pattern matches in them, or by what delimits it
+-- the data tell the length, by a prefix, by what a pattern matches in them, by what delimits it, or by an expression over them
 abbrev pub is_sized_by_data : Judged → Bool
-is_sized_by_data subject = is_prefixed subject || is_by_pattern subject || has_delimited_length subject
+is_sized_by_data subject = is_prefixed subject || is_by_pattern subject || has_delimited_length subject || is_by_expression subject
 
 -- an element of type hexBinary of delimited length
 abbrev pub is_delimited_bytes : Judged → Bool

@@ -1,10 +1,10 @@
 -- Which properties are asked of which components, and which of their values are built. Each property of the profile that
--- is not here applies to components of later forms alone: to the least length of strings, to elements whose occurrences are counted by
--- an expression, and to the branches of choices that are dispatched by a key; but outputNewLine, which NewLines judges.
+-- is not here applies to components of later forms alone: to the least length of strings, and to the branches of choices that are
+-- dispatched by a key; but outputNewLine, which NewLines judges.
 use Rattle.std.specs.Prelude.{ℕ, List, [], ◌∷◌, Bool, true, false, codes}
 use Rattle.dfdl_checks.specs.Values.{is_among, is_number, is_within}
 use Rattle.dfdl_checks.specs.declared.applicability.Bearers.{Bearers}
-use Rattle.dfdl_checks.specs.declared.applicability.Bearers.TheVariants.{EveryComponent, FramedComponents, Elements, OtherElements, SimpleElements, NillableElements, TextNillables, RepresentedElements, BoxedElements, Strings, PaddedStrings, PaddedBooleans, PaddedNumbers, Texts, TextNumbers, TextBooleans, StandardNumbers, ZonedNumbers, PatternNumbers, LooseTexts, BinaryNumbers, BinaryBooleans, OrderedBinaries, ExplicitBinaries, ExplicitBoxes, ImplicitStrings, PrefixedElements, PackedNumbers, BinaryDecimals, PatternElements, DelimitedBytes, DelimitedComponents, Groups, Sequences, SeparatedSequences, EmptySequences, Choices, CountedElements, TestedComponents}
+use Rattle.dfdl_checks.specs.declared.applicability.Bearers.TheVariants.{EveryComponent, FramedComponents, Elements, OtherElements, SimpleElements, NillableElements, TextNillables, RepresentedElements, BoxedElements, Strings, PaddedStrings, PaddedBooleans, PaddedNumbers, Texts, TextNumbers, TextBooleans, StandardNumbers, ZonedNumbers, PatternNumbers, LooseTexts, BinaryNumbers, BinaryBooleans, OrderedBinaries, ExplicitBinaries, ExplicitBoxes, ImplicitStrings, PrefixedElements, PackedNumbers, BinaryDecimals, PatternElements, DelimitedBytes, DelimitedComponents, Groups, Sequences, SeparatedSequences, EmptySequences, Choices, CountedElements, CountedByExpression, TestedComponents}
 use Rattle.dfdl_checks.specs.declared.purpose.Purpose.{Purpose}
 use Rattle.dfdl_checks.specs.declared.purpose.Purpose.TheVariants.{Parsing, Unparsing}
 
@@ -71,8 +71,8 @@ applicability_table =
     ∷ applies_by (codes "lengthKind") BoxedElements length_kinds (word (codes "implicit"))
     ∷ applies_by (codes "lengthKind") BinaryNumbers length_kinds (Words (codes "implicit" ∷ codes "delimited" ∷ codes "pattern" ∷ []))
     ∷ applies_by (codes "lengthKind") BinaryBooleans length_kinds (word (codes "implicit"))
-    ∷ applies (codes "length") ExplicitBinaries EachNumber
-    ∷ applies (codes "length") ExplicitBoxes EachNumber
+    ∷ applies_by (codes "length") ExplicitBinaries EveryValue EachNumber
+    ∷ applies_by (codes "length") ExplicitBoxes EveryValue EachNumber
     ∷ applies (codes "lengthUnits") ExplicitBinaries EveryValue
     ∷ applies (codes "lengthUnits") ExplicitBoxes EveryValue
     ∷ applies (codes "lengthUnits") ImplicitStrings EveryValue
@@ -97,7 +97,8 @@ applicability_table =
     ∷ applies (codes "sequenceKind") Sequences (word (codes "ordered"))
     ∷ applies_by (codes "hiddenGroupRef") EmptySequences EveryValue NoValue
     ∷ applies (codes "choiceDispatchKey") Choices NoValue
-    ∷ applies_by (codes "occursCountKind") CountedElements (Words (codes "fixed" ∷ codes "implicit" ∷ codes "parsed" ∷ [])) NoValue
+    ∷ applies_by (codes "occursCountKind") CountedElements EveryValue NoValue
+    ∷ applies_by (codes "occursCount") CountedByExpression EveryValue NoValue
     ∷ applies_by (codes "textTrimKind") Texts EveryValue (word (codes "none"))
     ∷ applies_by (codes "textPadKind") Texts EveryValue (word (codes "none"))
     ∷ applies (codes "textStringJustification") Strings EveryValue

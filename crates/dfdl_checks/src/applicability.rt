@@ -72,6 +72,8 @@ pub enum Bearers {
     Choices,
     /// Elements with other bounds of occurrences than 1 and 1.
     CountedElements,
+    /// Those among them that occur as often as an expression tells.
+    CountedByExpression,
     /// Components with tests of patterns.
     TestedComponents,
 }

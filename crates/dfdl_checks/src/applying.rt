@@ -12,7 +12,7 @@ use crate::kinds::{
 };
 use crate::nils::is_nil_by_value;
 use crate::number_texts::base_of;
-use crate::occurring::is_counted;
+use crate::occurring::{is_counted, is_counted_by_expression};
 use crate::orders::is_least_first;
 use crate::pads::is_padded_text;
 use crate::representations::{
@@ -71,6 +71,7 @@ pub(crate) fn is_bearer(bearers: Bearers, subject: &Subject<'_, '_, '_>) -> bool
         },
         Bearers::Choices => is_choice(kind),
         Bearers::CountedElements => is_counted(subject),
+        Bearers::CountedByExpression => is_counted_by_expression(subject),
         Bearers::TestedComponents => is_tested(subject),
     }
 }

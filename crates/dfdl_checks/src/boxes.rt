@@ -10,7 +10,9 @@ use crate::encodings::{character_bits, encoding_told};
 use crate::kinds::{is_complex, is_string, is_string_or_bytes};
 use crate::lengths::unit_bits;
 use crate::purpose::Purpose;
-use crate::representations::{is_boxed, is_explicit, is_sized_by_data, is_text, is_word};
+use crate::representations::{
+    is_boxed, is_by_expression, is_explicit, is_sized_by_data, is_text, is_word,
+};
 use crate::subject::Subject;
 use crate::values::is_number;
 use dfdl_scope::{Asked, literal, property};
@@ -18,7 +20,7 @@ use dfdl_scope::{Asked, literal, property};
 /// The greatest constant length, in bits.
 const MOST_LENGTH: u128 = 8589934592;
 
-/// How many bits the box has around the content of a complex element with a length of its own, at most
+/// How many bits the box has around the content of a complex element with a constant length of its own, at most
 /// 2^33; nothing for every other component, for a box that is longer, and for unparsing ('Lengths').
 /// Takes no memory.
 pub fn size_of_box(subject: &Subject<'_, '_, '_>) -> Option<u64>
@@ -41,11 +43,11 @@ fn parsed_size(subject: &Subject<'_, '_, '_>) -> Option<u64>
     }
 }
 
-/// Whether it is a complex element with a length of its own.
+/// Whether it is a complex element with a length of its own that is constant.
 fn is_explicit_complex(subject: &Subject<'_, '_, '_>) -> bool
     ensures { result ≡ boxes.is_explicit_complex (judged_of subject.now) }
 {
-    is_complex(subject.kind) && is_explicit(subject)
+    is_complex(subject.kind) && is_explicit(subject) && !is_by_expression(subject)
 }
 
 /// Whether it is an element with a box and a length of its own.
@@ -95,11 +97,11 @@ fn is_past_most(subject: &Subject<'_, '_, '_>) -> bool
 fn has_number(subject: &Subject<'_, '_, '_>) -> bool
     ensures { result ≡ is_some (boxes.box_number (judged_of subject.now)) }
 {
-    if is_explicit(subject) {
-        return is_number_told(property(subject.chain, "length"));
-    }
     if is_sized_by_data(subject) {
         return true;
+    }
+    if is_explicit(subject) {
+        return is_number_told(property(subject.chain, "length"));
     }
     subject.facts.max_length.is_some()
 }
@@ -131,11 +133,11 @@ pub(crate) fn box_units(subject: &Subject<'_, '_, '_>) -> Option<u64>
     ensures few { IfSome result (λ n. n * boxes.box_unit (judged_of subject.now) ≤ most_length) }
 {
     let unit = box_unit(subject);
-    if is_explicit(subject) {
-        return units_told(unit, property(subject.chain, "length"));
-    }
     if is_sized_by_data(subject) {
         return units_within(unit, 0);
+    }
+    if is_explicit(subject) {
+        return units_told(unit, property(subject.chain, "length"));
     }
     match subject.facts.max_length {
         Some(number) => units_within(unit, number),

@@ -2,6 +2,7 @@
 ghost use Rattle.std.specs.Prelude.{◌≡◌, ◌&&◌, codes, option_copied};
 ghost use Rattle.dfdl_checks.specs.Calculations as spec;
 ghost use Rattle.dfdl_checks.specs.JudgedShown.{facts_judged_of, judged_of};
+ghost use Rattle.dfdl_checks.specs.Subjects.{is_expression_told};
 ghost use Rattle.dfdl_scope.specs.Scoping.{told};
 ghost use Rattle.dfdl_scope.specs.Shown.{chain_of};
 ghost use Rattle.dfdl_scope.specs.Told.{told_by};
@@ -9,8 +10,9 @@ ghost use Rattle.dfdl_scope.specs.Told.{told_by};
 use crate::kinds::is_any_element;
 use crate::occurring::is_once;
 use crate::purpose::Purpose;
+use crate::representations::is_expression_told;
 use crate::subject::{Facts, Kind, Subject};
-use dfdl_scope::{Asked, Component, is_expression, property};
+use dfdl_scope::{Asked, Component, property};
 
 /// The kind of a component that states this, and whose properties are asked of this chain: for parsing an element with an
 /// expression inputValueCalc is one whose value is calculated.
@@ -85,7 +87,7 @@ fn is_single(facts: Facts<'_>) -> bool
 
 // Whether the value of a component that states this, and whose properties are asked of this chain, is calculated.
 fn is_calculated_by(facts: Facts<'_>, chain: &Component<'_, '_>) -> bool
-    ensures { result ≡ (spec.is_single (facts_judged_of facts.entry) && spec.is_expression_told (told (chain_of chain.now) (codes "inputValueCalc"))) }
+    ensures { result ≡ (spec.is_single (facts_judged_of facts.entry) && is_expression_told (told (chain_of chain.now) (codes "inputValueCalc"))) }
 {
     is_single(facts) && is_expression_told(property(chain, "inputValueCalc"))
 }
@@ -114,19 +116,8 @@ fn is_given(told: Asked<'_>) -> bool
     }
 }
 
-// Whether an expression is told.
-fn is_expression_told(told: Asked<'_>) -> bool
-    ensures { result ≡ spec.is_expression_told (told_by told.entry) }
-{
-    match told {
-        Asked::Given(written) => is_expression(written),
-        Asked::Absent => false,
-        Asked::Twice { .. } => false,
-    }
-}
-
 // What is told, as it is written.
-fn written_told<'c>(told: Asked<'c>) -> Option<&'c str>
+pub(crate) fn written_told<'c>(told: Asked<'c>) -> Option<&'c str>
     ensures { option_copied result ≡ spec.written_told (told_by told.entry) }
 {
     match told {

@@ -17,7 +17,8 @@ ghost use Rattle.dfdl_checks.specs.Forms.{IsWhole};
 ghost use Rattle.dfdl_checks.specs.Framing.{framing_of};
 ghost use Rattle.dfdl_checks.specs.Judged.{Judged};
 ghost use Rattle.dfdl_checks.specs.Nils.{lacks_literals};
-ghost use Rattle.dfdl_checks.specs.Occurrences.{occurrences_of};
+ghost use Rattle.dfdl_checks.specs.Measures.{count_expression, is_measured_element, measure_of};
+ghost use Rattle.dfdl_checks.specs.Occurrences.{is_counted_by_expression, occurrences_of};
 ghost use Rattle.dfdl_checks.specs.Numbers.{IsBinaryValue, IsTextOrBytesValue, primitive_of, type_of};
 ghost use Rattle.dfdl_checks.specs.Pads.{has_character, is_padded_text, pad_at, single};
 ghost use Rattle.dfdl_checks.specs.Patterns.{length_pattern, pattern_encoding, pattern_prefix};
@@ -152,9 +153,18 @@ pub fn boxes_are_bounded()
     ensures sound { (j : Judged) → first_breach rules j ≡ None → j.purpose ≡ Parsing → IsTrue (is_explicit_complex j) → IsSome (size_of_box j) }
 {}
 
+/// An element whose length is by an expression has one for parsing, and so has one that occurs as often as an expression tells and
+/// breaks no rule; for unparsing there is neither.
+pub fn lengths_and_counts_are_told()
+    ensures measure { (j : Judged) → j.purpose ≡ Parsing → IsTrue (is_measured_element j) → IsSome (measure_of j) }
+    ensures count { (j : Judged) → first_breach rules j ≡ None → j.purpose ≡ Parsing → IsTrue (is_counted_by_expression j) → IsSome (count_expression j) }
+    ensures unmeasured { (j : Judged) → j.purpose ≡ Unparsing → measure_of j ≡ None }
+    ensures uncounted { (j : Judged) → j.purpose ≡ Unparsing → count_expression j ≡ None }
+{}
+
 /// Components whose chains give the same, name by name, and those of the types of their prefixes, have the same breach, the same
 /// primitive, the same other representations, the same fill, the same delimiters, the same box, the same prefix, the same pattern of
-/// their length, and occur as often.
+/// their length, and occur as often; and the same expressions tell how long they are and how often they occur.
 pub fn alike_components_are_judged_alike()
     ensures breach { (a b : Judged) → IsAlike a b → breach_of_component a ≡ breach_of_component b }
     ensures primitive { (a b : Judged) → IsAlike a b → primitive_of a ≡ primitive_of b }
@@ -167,6 +177,8 @@ pub fn alike_components_are_judged_alike()
     ensures encoding { (a b : Judged) → IsAlike a b → pattern_encoding a ≡ pattern_encoding b }
     ensures pattern { (a b : Judged) → IsAlike a b → pattern_prefix a ≡ pattern_prefix b }
     ensures occurrences { (a b : Judged) → IsAlike a b → occurrences_of a ≡ occurrences_of b }
+    ensures measure { (a b : Judged) → IsAlike a b → measure_of a ≡ measure_of b }
+    ensures count { (a b : Judged) → IsAlike a b → count_expression a ≡ count_expression b }
 {}
 
 /// Chains that give the same, name by name, tell the same of each property.

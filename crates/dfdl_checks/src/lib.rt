@@ -11,6 +11,7 @@
 //! pattern tells its length, by `specs/Patterns.antt`. `framing` says which fill stands around a component, by
 //! `specs/Framing.antt`, `delimiters_at` which initiator, terminator and separator it has, by `specs/Delimiters.antt`, and `size_of_box` how long
 //! a complex element's box is, by `specs/Boxes.antt`. `occurrences` says how often an element occurs, by `specs/Occurrences.antt`.
+//! `measure` and `count` tell by which expressions it has its length and the number of its occurrences, by `specs/Measures.antt`.
 //! The patterns of its tests and `checks`, its tests of expressions, are told by `specs/Tests.antt`, and what is asked of it where it stands by `specs/Standings.antt`.
 //! `other_representations` says which representations of a simple element are tried before its normal one, by
 //! `specs/Representations.antt`, which stands on `specs/Nils.antt`, `specs/NilValues.antt` and `specs/Defaults.antt`. The chapters are
@@ -36,6 +37,7 @@ mod kinds;
 pub mod laws;
 mod length_rules;
 mod lengths;
+mod measures;
 mod new_lines;
 mod nil_values;
 mod nils;
@@ -65,6 +67,7 @@ pub use calculations::{calculation, kind_for};
 pub use delimiters::{Delimiting, Markup, Separating, delimiters_at, is_delimiter};
 pub use expression_tests::{CheckForm, checks, message_of};
 pub use fill::framing;
+pub use measures::{MeasureForm, count, measure};
 pub use number::primitive;
 pub use occurring::{Bounds, is_count_parsed, occurrences};
 pub use orders::bit_order;

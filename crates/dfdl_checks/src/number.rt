@@ -181,11 +181,11 @@ fn packed_by(
 fn field_nibbles(rep: PackedRep, subject: &Subject<'_, '_, '_>) -> Option<u32>
     ensures { result ≡ numbers.field_nibbles (judged_of subject.now) rep }
 {
-    if is_explicit(subject) {
-        return constant_nibbles(rep, subject.chain);
-    }
     if is_sized_by_data(subject) {
         return Some(1);
+    }
+    if is_explicit(subject) {
+        return constant_nibbles(rep, subject.chain);
     }
     None
 }
@@ -227,6 +227,9 @@ fn truth_by(
 fn field_bits(subject: &Subject<'_, '_, '_>, most: u32) -> Option<u32>
     ensures { result ≡ numbers.field_bits (judged_of subject.now) most }
 {
+    if is_sized_by_data(subject) {
+        return Some(most);
+    }
     if !is_explicit(subject) {
         return Some(most);
     }

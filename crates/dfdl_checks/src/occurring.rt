@@ -20,9 +20,9 @@ pub struct Bounds {
 }
 
 /// How often an element occurs where it stands ('Arrays and Optional Elements'). Both bounds 1: once. Else by `occursCountKind`: fixed
-/// as often as both bounds say, implicit at least `minOccurs` times and up to `maxOccurs`, parsed any number of times. A required number
-/// past 32 bits is the greatest of these, an unbounded one is 2^64 - 1 tried occurrences, and for unparsing each element
-/// occurs once. Takes no memory.
+/// as often as both bounds say, implicit at least `minOccurs` times and up to `maxOccurs`, parsed any number of times, expression as
+/// often as `occursCount` tells, so that none is required by bounds and none is tried. A required number past 32 bits is the greatest
+/// of these, an unbounded one is 2^64 - 1 tried occurrences, and for unparsing each element occurs once. Takes no memory.
 pub fn occurrences(subject: &Subject<'_, '_, '_>) -> Occurs
     ensures { result ≡ spec.occurrences_of (judged_of subject.now) }
 {
@@ -52,6 +52,8 @@ fn occurrences_by_kind(subject: &Subject<'_, '_, '_>) -> Occurs
         required_times(count_of(bounds.most))
     } else if is_parsed(subject) {
         occurs_any()
+    } else if is_count_asked(subject) {
+        occurs_told()
     } else {
         occurs_within(bounds)
     }
@@ -86,6 +88,17 @@ fn occurs_any() -> Occurs
     Occurs {
         least: 0,
         further: u64::MAX,
+        is_item: true,
+    }
+}
+
+/// As often as an expression tells.
+fn occurs_told() -> Occurs
+    ensures { result ≡ spec.occurs_told }
+{
+    Occurs {
+        least: 0,
+        further: 0,
         is_item: true,
     }
 }
@@ -184,6 +197,20 @@ pub(crate) fn is_parsed(subject: &Subject<'_, '_, '_>) -> bool
     ensures { result ≡ spec.is_parsed (judged_of subject.now) }
 {
     is_word(subject.chain, "occursCountKind", "parsed")
+}
+
+/// Whether an expression tells how often it occurs.
+pub(crate) fn is_count_asked(subject: &Subject<'_, '_, '_>) -> bool
+    ensures { result ≡ spec.is_count_asked (judged_of subject.now) }
+{
+    is_word(subject.chain, "occursCountKind", "expression")
+}
+
+/// Whether it is an element with other bounds than 1 and 1 that occurs as often as an expression tells.
+pub(crate) fn is_counted_by_expression(subject: &Subject<'_, '_, '_>) -> bool
+    ensures { result ≡ spec.is_counted_by_expression (judged_of subject.now) }
+{
+    is_counted(subject) && is_count_asked(subject)
 }
 
 /// Whether it is an element that never occurs, or one that occurs a fixed number of times and whose bounds differ.

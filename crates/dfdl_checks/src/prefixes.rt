@@ -184,7 +184,7 @@ pub(crate) fn is_no_prefix_type(prefix: Option<PrefixType<'_, '_, '_>>) -> bool
 }
 
 /// What the length counts that a chain gives: bytes where it gives nothing.
-fn unit_told(chain: &Component<'_, '_>) -> LengthUnit
+pub(crate) fn unit_told(chain: &Component<'_, '_>) -> LengthUnit
     ensures { result ≡ prefixes.unit_told (told (chain_of chain.now) (codes "lengthUnits")) }
 {
     if is_word(chain, "lengthUnits", "bits") {

@@ -4,13 +4,14 @@ ghost use Rattle.dfdl_checks.specs.JudgedShown.{judged_of};
 ghost use Rattle.dfdl_checks.specs.Subjects as subjects;
 ghost use Rattle.dfdl_scope.specs.Scoping.{told};
 ghost use Rattle.dfdl_scope.specs.Shown.{chain_of};
+ghost use Rattle.dfdl_scope.specs.Told.{told_by};
 
 use crate::kinds::{
     is_boolean, is_complex, is_element, is_hex_binary, is_simple, is_string, is_without_length,
     number_bits, value_bits,
 };
 use crate::subject::Subject;
-use dfdl_scope::{Asked, Component, literal, property};
+use dfdl_scope::{Asked, Component, is_expression, literal, property};
 
 /// Whether what is told of a property stands for this word.
 pub fn is_word(chain: &Component<'_, '_>, name: &str, word: &str) -> bool
@@ -63,6 +64,24 @@ pub(crate) fn is_explicit(subject: &Subject<'_, '_, '_>) -> bool
     ensures { result ≡ subjects.is_explicit (judged_of subject.now) }
 {
     is_word(subject.chain, "lengthKind", "explicit")
+}
+
+/// Whether an expression is told.
+pub(crate) fn is_expression_told(told: Asked<'_>) -> bool
+    ensures { result ≡ subjects.is_expression_told (told_by told.entry) }
+{
+    match told {
+        Asked::Given(written) => is_expression(written),
+        Asked::Absent => false,
+        Asked::Twice { .. } => false,
+    }
+}
+
+/// Whether the length is the component's own, by an expression.
+pub(crate) fn is_by_expression(subject: &Subject<'_, '_, '_>) -> bool
+    ensures { result ≡ subjects.is_by_expression (judged_of subject.now) }
+{
+    is_explicit(subject) && is_expression_told(property(subject.chain, "length"))
 }
 
 /// Whether it is an integer or decimal whose representation is text.
@@ -135,11 +154,15 @@ pub(crate) fn has_delimited_length(subject: &Subject<'_, '_, '_>) -> bool
     !is_without_length(subject.kind) && is_word(subject.chain, "lengthKind", "delimited")
 }
 
-/// Whether the data tell the length, by a prefix, by what a pattern matches in them, or by what delimits it.
+/// Whether the data tell the length, by a prefix, by what a pattern matches in them, by what delimits it, or by an expression over
+/// them.
 pub(crate) fn is_sized_by_data(subject: &Subject<'_, '_, '_>) -> bool
     ensures { result ≡ subjects.is_sized_by_data (judged_of subject.now) }
 {
-    is_prefixed(subject) || is_by_pattern(subject) || has_delimited_length(subject)
+    is_prefixed(subject)
+        || is_by_pattern(subject)
+        || has_delimited_length(subject)
+        || is_by_expression(subject)
 }
 
 /// Whether it is an element of type hexBinary of delimited length.

@@ -18,7 +18,9 @@ use crate::length_rules::{
 };
 use crate::new_lines::{is_new_line_expression, is_new_line_other};
 use crate::nil_values::is_nil_not_allowed;
-use crate::occurring::{are_bounds_unfit, is_once, is_required, is_tried};
+use crate::occurring::{
+    are_bounds_unfit, is_counted_by_expression, is_once, is_required, is_tried,
+};
 use crate::orders::{bit_order, is_least_first, is_same_order};
 use crate::packed::codes_told;
 use crate::prefixes::prefix_subject;
@@ -275,18 +277,25 @@ fn is_whole_type(simple: Simple) -> bool
     }
 }
 
-/// Whether an element is built later: for parsing, one with a default that some of its occurrences take and others don't; for
-/// unparsing, one that does not occur exactly once, may be nil or has a default.
+/// Whether an element is built later: for parsing, one with a default that some of its occurrences take and others don't, or whose
+/// occurrences an expression counts; for unparsing, one that does not occur exactly once, may be nil or has a default.
 fn is_later_element(subject: &Subject<'_, '_, '_>) -> bool
     ensures { result ≡ spec.is_later_element subject.now.purpose (judged_of subject.now) }
 {
     let facts = subject.facts;
     match subject.purpose {
-        Purpose::Parsing => facts.default.is_some() && is_required(subject) && is_tried(subject),
+        Purpose::Parsing => facts.default.is_some() && are_defaults_apart(subject),
         Purpose::Unparsing => {
             !is_once(facts.bounds) || facts.is_nillable || facts.default.is_some()
         }
     }
+}
+
+/// Whether some of its occurrences are required and others tried, or an expression counts them.
+fn are_defaults_apart(subject: &Subject<'_, '_, '_>) -> bool
+    ensures { result ≡ spec.are_defaults_apart (judged_of subject.now) }
+{
+    (is_required(subject) && is_tried(subject)) || is_counted_by_expression(subject)
 }
 
 /// Whether it is an element of a simple type that is not carried.

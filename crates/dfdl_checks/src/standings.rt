@@ -5,7 +5,7 @@ ghost use Rattle.dfdl_checks.specs.Standings as spec;
 
 use crate::delimiters::has_delimiter;
 use crate::kinds::{is_calculated, is_element, is_plain_group};
-use crate::occurring::{is_fixed, is_parsed};
+use crate::occurring::{is_count_asked, is_fixed, is_parsed};
 use crate::purpose::Purpose;
 use crate::representations::is_word;
 use crate::subject::Subject;
@@ -53,4 +53,5 @@ pub(crate) fn is_unbounded_not_allowed(subject: &Subject<'_, '_, '_>) -> bool
         && is_endless(subject.facts.bounds.most)
         && !is_fixed(subject)
         && !is_parsed(subject)
+        && !is_count_asked(subject)
 }

@@ -13,7 +13,7 @@ pub(crate) fn applicabilities() -> &'static [Applicability]
     &APPLICABILITIES
 }
 
-static APPLICABILITIES: [Applicability; 74] = [
+static APPLICABILITIES: [Applicability; 75] = [
     Applicability {
         name: "representation",
         bearers: Bearers::RepresentedElements,
@@ -95,13 +95,13 @@ static APPLICABILITIES: [Applicability; 74] = [
     Applicability {
         name: "length",
         bearers: Bearers::ExplicitBinaries,
-        parsing: Built::EachNumber,
+        parsing: Built::EveryValue,
         unparsing: Built::EachNumber,
     },
     Applicability {
         name: "length",
         bearers: Bearers::ExplicitBoxes,
-        parsing: Built::EachNumber,
+        parsing: Built::EveryValue,
         unparsing: Built::EachNumber,
     },
     Applicability {
@@ -251,7 +251,13 @@ static APPLICABILITIES: [Applicability; 74] = [
     Applicability {
         name: "occursCountKind",
         bearers: Bearers::CountedElements,
-        parsing: Built::Words(&["fixed", "implicit", "parsed"]),
+        parsing: Built::EveryValue,
+        unparsing: Built::NoValue,
+    },
+    Applicability {
+        name: "occursCount",
+        bearers: Bearers::CountedByExpression,
+        parsing: Built::EveryValue,
         unparsing: Built::NoValue,
     },
     Applicability {

@@ -4,6 +4,7 @@ use Rattle.dfdl_documents.specs.Documents.{SchemaDocument}
 use Rattle.dfdl_components.specs.declared.site.Site.{Site}
 use Rattle.dfdl_components.specs.Sites.{IsSite, role_of}
 use Rattle.dfdl_checks.specs.declared.expression_tests.CheckForm.{CheckForm}
+use Rattle.dfdl_checks.specs.declared.measures.MeasureForm.{MeasureForm}
 use Rattle.dfdl_checks.specs.declared.prefixes.PrefixForm.{PrefixForm}
 use Rattle.dfdl_checks.specs.declared.delimiters.Separating.{Separating}
 use Rattle.dfdl_checks.specs.declared.purpose.Purpose.{Purpose}
@@ -13,29 +14,34 @@ use Rattle.dfdl_checks.specs.declared.subject.Kind.TheVariants as kind
 use Rattle.dfdl_chains.specs.Everywhere.{all_sites}
 use Rattle.dfdl_chains.specs.Kinds.{kind_at}
 use Rattle.dfdl_chains.specs.Parts.{is_component}
-use Rattle.dfdl_breaches.specs.Judging.{form_of_prefix, judgement_at, built_checks_at, calculation_at, built_settings_at, built_tests_at, hidden_at}
+use Rattle.dfdl_breaches.specs.Judging.{built_checks_at, built_settings_at, built_tests_at, calculation_at, count_at, form_of_prefix, hidden_at, is_parsed_at, judgement_at, measure_at}
 use Rattle.dfdl_breaches.specs.declared.judgement.Judgement.{Judgement}
 use Rattle.dfdl_terms.specs.declared.statement.PatternTest.{PatternTest}
+use Rattle.dfdl_terms.specs.declared.prefix.Measure.{Measure}
 use Rattle.dfdl_terms.specs.declared.prefix.Prefix.{Prefix}
 use Rattle.dfdl_terms.specs.declared.row.Row.TheVariants.{Choice}
 use Rattle.dfdl_rows.specs.Components.{Schema, IsBareComponent}
 use Rattle.dfdl_rows.specs.Framing.{has_framing}
+use Rattle.dfdl_rows.specs.Times.{question_of}
 use Rattle.dfdl_rows.specs.declared.component.ContentBox.TheVariants.{Unbounded}
+use Rattle.dfdl_rows.specs.declared.component.LeafLength.TheVariants.{Own}
 use Rattle.dfdl_rows.specs.declared.component.Component.TheVariants.{Sequence, SimpleElement, CalculatedElement}
-use Rattle.dfdl_compile.specs.Components.{box_by, component_at, components_of, framing_of, prefix_by, prefix_number, separator_number, hiding_by}
-use Rattle.dfdl_compile.specs.Statements.{first_statement, if_first, if_last, is_set_first}
+use Rattle.dfdl_compile.specs.Components.{box_by, component_at, components_of, counted_by, framing_of, hiding_by, leaf_length_by, measure_by, number_if, prefix_by, prefix_number, separator_number}
+use Rattle.dfdl_compile.specs.Statements.{count_number, first_statement, if_first, if_last, is_set_first, measure_number}
 use Rattle.dfdl_compile.specs.Delimiters.{separated_by}
-use Rattle.dfdl_compile.proofs.Fitting.{all_within, each, of_kind, by_calculation, calculation_or}
+use Rattle.dfdl_compile.proofs.Fitting.{all_within, by_calculation, calculation_or, each, measured, of_kind, often}
 use Rattle.dfdl_compile.proofs.Hiding.{judgement_if, none_unparsed}
 use Rattle.dfdl_compile.proofs.Calculating.{none_calculated}
 
--- neither a statement nor fill nor a delimiter nor a separator nor a box nor a length prefix is told of an element, and it occurs once, which
--- isn't tried
+-- neither a statement nor fill nor a delimiter nor a separator nor a box nor a length prefix is told of an element, nor an expression for its
+-- length or the number of its occurrences, and it occurs once, which isn't tried
 record IsBare (documents : List SchemaDocument) (first : ℕ) (own : Site) (told : Judgement) : Type 0 where
   unframed : has_framing (framing_of documents first own told) ≡ false
   unconcluded : (framing_of documents first own told).behind.count ≡ 0
   unboxed : told.size ≡ None
   unprefixed : told.prefix ≡ None
+  unmeasured : told.measure ≡ None
+  uncounted : told.count ≡ None
   unseparated : told.markup.separator ≡ None
   once : told.occurs.least ≤ 1
   untried : told.occurs.further ≡ 0
@@ -47,7 +53,9 @@ module _ (refused : Site → Bool) (documents : List SchemaDocument)
     (unchecked : (refused : Site → Bool) (documents : List SchemaDocument) (own : Site) → built_checks_at Unparsing refused documents own ≡ [])
     (uncalculated : (refused : Site → Bool) (documents : List SchemaDocument) (own : Site) → calculation_at Unparsing refused documents own ≡ None)
     (unset : (documents : List SchemaDocument) (own : Site) → built_settings_at Unparsing documents own ≡ [])
-    (unhidden : (documents : List SchemaDocument) (own : Site) → hidden_at Unparsing documents own ≡ None) where
+    (unhidden : (documents : List SchemaDocument) (own : Site) → hidden_at Unparsing documents own ≡ None)
+    (unmeasured : (refused : Site → Bool) (documents : List SchemaDocument) (own : Site) → measure_at Unparsing refused documents own ≡ None)
+    (uncounted : (refused : Site → Bool) (documents : List SchemaDocument) (own : Site) → count_at Unparsing refused documents own ≡ None) where
   none_first : (b : Bool) (n : ℕ) → n ≡ 0 → if_first b n ≡ 0
   none_first true n is = is
   none_first false n is = refl
@@ -83,6 +91,8 @@ module _ (refused : Site → Bool) (documents : List SchemaDocument)
     unconcluded = none_behind own (is_set_first (kind_at documents own));
     unboxed = refl;
     unprefixed = none refused documents own;
+    unmeasured = unmeasured refused documents own;
+    uncounted = uncounted refused documents own;
     unseparated = refl;
     once = omega arith;
     untried = refl;
@@ -92,6 +102,8 @@ module _ (refused : Site → Bool) (documents : List SchemaDocument)
     unconcluded = nothing_behind (is_set_first (kind_at documents own));
     unboxed = refl;
     unprefixed = refl;
+    unmeasured = refl;
+    uncounted = refl;
     unseparated = refl;
     once = omega arith;
     untried = refl;
@@ -112,17 +124,46 @@ module _ (refused : Site → Bool) (documents : List SchemaDocument)
       by_prefix None is = refl
       by_prefix (Some form) is = absurd (cc)
 
-      by_box : (size : Option ℕ) (o : Option Prefix) → size ≡ None → o ≡ None → box_by size o ≡ Unbounded
-      by_box None None is none = refl
-      by_box (Some bits) o is none = absurd (cc)
-      by_box None (Some prefix) is none = absurd (cc)
+      by_measure : (number : ℕ) (o : Option MeasureForm) → o ≡ None → option_map (measure_by number) o ≡ None
+      by_measure number None is = refl
+      by_measure number (Some form) is = absurd (cc)
+
+      by_box : (size : Option ℕ) (o : Option Prefix) (m : Option Measure) → size ≡ None → o ≡ None → m ≡ None → box_by size o m ≡ Unbounded
+      by_box None None None is none unmade = refl
+      by_box (Some bits) o m is none unmade = absurd (cc)
+      by_box None (Some prefix) m is none unmade = absurd (cc)
+      by_box None None (Some measure) is none unmade = absurd (cc)
+
+      by_length : (o : Option Prefix) (m : Option Measure) → o ≡ None → m ≡ None → leaf_length_by o m ≡ Own
+      by_length None None none unmade = refl
+      by_length (Some prefix) m none unmade = absurd (cc)
+      by_length None (Some measure) none unmade = absurd (cc)
+
+      by_count : (number : ℕ) (parsed : Bool) (o : Option (List ℕ)) → o ≡ None → question_of (counted_by parsed (number_if number o)) ≡ None
+      by_count number true None is = refl
+      by_count number false None is = refl
+      by_count number parsed (Some text) is = absurd (cc)
 
       unprefixed : option_map (prefix_by (prefix_number documents own)) (judgement_at Unparsing refused documents own).prefix ≡ None
       unprefixed = by_prefix (judgement_at Unparsing refused documents own).prefix told.unprefixed
 
-      unboxed : box_by (judgement_at Unparsing refused documents own).size (option_map (prefix_by (prefix_number documents own)) (judgement_at Unparsing refused documents own).prefix) ≡ Unbounded
+      no_measure : measured Unparsing refused documents own ≡ None
+      no_measure = by_measure (measure_number (first_statement Unparsing refused documents own) (judgement_at Unparsing refused documents own))
+          (judgement_at Unparsing refused documents own).measure told.unmeasured
+
+      unboxed : box_by (judgement_at Unparsing refused documents own).size (option_map (prefix_by (prefix_number documents own)) (judgement_at Unparsing refused documents own).prefix)
+          (measured Unparsing refused documents own) ≡ Unbounded
       unboxed = by_box (judgement_at Unparsing refused documents own).size (option_map (prefix_by (prefix_number documents own)) (judgement_at Unparsing refused documents own).prefix)
-          told.unboxed unprefixed
+          (measured Unparsing refused documents own) told.unboxed unprefixed no_measure
+
+      unsized : leaf_length_by (option_map (prefix_by (prefix_number documents own)) (judgement_at Unparsing refused documents own).prefix)
+          (measured Unparsing refused documents own) ≡ Own
+      unsized = by_length (option_map (prefix_by (prefix_number documents own)) (judgement_at Unparsing refused documents own).prefix)
+          (measured Unparsing refused documents own) unprefixed no_measure
+
+      untold : question_of (often Unparsing refused documents own) ≡ None
+      untold = by_count (count_number (first_statement Unparsing refused documents own) (judgement_at Unparsing refused documents own))
+          (judgement_at Unparsing refused documents own).is_parsed (judgement_at Unparsing refused documents own).count told.uncounted
 
       by_separator : (o : Option Separating) → o ≡ None → option_map (separated_by (separator_number documents own)) o ≡ None
       by_separator None is = refl
@@ -132,14 +173,14 @@ module _ (refused : Site → Bool) (documents : List SchemaDocument)
       unseparated = by_separator (judgement_at Unparsing refused documents own).markup.separator told.unseparated
 
       by_kind : (k : Kind) → IsBareComponent (of_kind Unparsing refused documents own k)
-      by_kind kind.ComplexElement = record { unframed = told.unframed; unconcluded = told.unconcluded; unboxed = unboxed; unprefixed = refl; unseparated = refl; unchosen = refl; unhidden = refl; uncalculated = refl; once = told.once; untried = told.untried }
-      by_kind (kind.SimpleElement simple) = record { unframed = told.unframed; unconcluded = told.unconcluded; unboxed = refl; unprefixed = unprefixed; unseparated = refl; unchosen = refl; unhidden = refl; uncalculated = refl; once = told.once; untried = told.untried }
-      by_kind kind.UncarriedElement = record { unframed = told.unframed; unconcluded = told.unconcluded; unboxed = refl; unprefixed = unprefixed; unseparated = refl; unchosen = refl; unhidden = refl; uncalculated = refl; once = told.once; untried = told.untried }
-      by_kind (kind.CalculatedElement simple) = record { unframed = told.unframed; unconcluded = told.unconcluded; unboxed = refl; unprefixed = unprefixed; unseparated = refl; unchosen = refl; unhidden = refl; uncalculated = refl; once = told.once; untried = told.untried }
-      by_kind kind.Sequence = record { unframed = told.unframed; unconcluded = told.unconcluded; unboxed = refl; unprefixed = refl; unseparated = unseparated; unchosen = refl; unhidden = refl; uncalculated = refl; once = omega arith; untried = refl }
-      by_kind kind.HiddenSequence = record { unframed = told.unframed; unconcluded = told.unconcluded; unboxed = refl; unprefixed = refl; unseparated = unseparated; unchosen = refl; unhidden = refl; uncalculated = refl; once = omega arith; untried = refl }
-      by_kind kind.Choice = record { unframed = told.unframed; unconcluded = told.unconcluded; unboxed = refl; unprefixed = refl; unseparated = unseparated; unchosen = refl; unhidden = refl; uncalculated = refl; once = omega arith; untried = refl }
-      by_kind (kind.PrefixNumber simple) = record { unframed = told.unframed; unconcluded = told.unconcluded; unboxed = refl; unprefixed = refl; unseparated = unseparated; unchosen = refl; unhidden = refl; uncalculated = refl; once = omega arith; untried = refl }
+      by_kind kind.ComplexElement = record { unframed = told.unframed; unconcluded = told.unconcluded; unboxed = unboxed; unmeasured = refl; unseparated = refl; unchosen = refl; unhidden = refl; uncalculated = refl; once = told.once; untried = told.untried; untold = untold }
+      by_kind (kind.SimpleElement simple) = record { unframed = told.unframed; unconcluded = told.unconcluded; unboxed = refl; unmeasured = unsized; unseparated = refl; unchosen = refl; unhidden = refl; uncalculated = refl; once = told.once; untried = told.untried; untold = untold }
+      by_kind kind.UncarriedElement = record { unframed = told.unframed; unconcluded = told.unconcluded; unboxed = refl; unmeasured = unsized; unseparated = refl; unchosen = refl; unhidden = refl; uncalculated = refl; once = told.once; untried = told.untried; untold = untold }
+      by_kind (kind.CalculatedElement simple) = record { unframed = told.unframed; unconcluded = told.unconcluded; unboxed = refl; unmeasured = unsized; unseparated = refl; unchosen = refl; unhidden = refl; uncalculated = refl; once = told.once; untried = told.untried; untold = untold }
+      by_kind kind.Sequence = record { unframed = told.unframed; unconcluded = told.unconcluded; unboxed = refl; unmeasured = refl; unseparated = unseparated; unchosen = refl; unhidden = refl; uncalculated = refl; once = omega arith; untried = refl; untold = refl }
+      by_kind kind.HiddenSequence = record { unframed = told.unframed; unconcluded = told.unconcluded; unboxed = refl; unmeasured = refl; unseparated = unseparated; unchosen = refl; unhidden = refl; uncalculated = refl; once = omega arith; untried = refl; untold = refl }
+      by_kind kind.Choice = record { unframed = told.unframed; unconcluded = told.unconcluded; unboxed = refl; unmeasured = refl; unseparated = unseparated; unchosen = refl; unhidden = refl; uncalculated = refl; once = omega arith; untried = refl; untold = refl }
+      by_kind (kind.PrefixNumber simple) = record { unframed = told.unframed; unconcluded = told.unconcluded; unboxed = refl; unmeasured = refl; unseparated = unseparated; unchosen = refl; unhidden = refl; uncalculated = refl; once = omega arith; untried = refl; untold = refl }
 
       by_hidden : (hidden : Option Site) → hidden ≡ None
           → IsBareComponent (hiding_by hidden (calculation_or Unparsing refused documents own (judgement_at Unparsing refused documents own).calculation

@@ -34,6 +34,8 @@ use Rattle.dfdl_compile.specs.Primitives.{primitive_by}
 use Rattle.dfdl_rows.specs.Components.{Schema, AreOfOne, CanHave}
 use Rattle.dfdl_terms.specs.Framing.{no_fill}
 use Rattle.dfdl_terms.specs.declared.framing.Framing.{Framing}
+use Rattle.dfdl_terms.specs.declared.prefix.Measure.{Measure}
+use Rattle.dfdl_rows.specs.declared.component.Counted.{Counted}
 use Rattle.dfdl_rows.specs.declared.component.Separated.{Separated}
 use Rattle.dfdl_rows.specs.declared.component.Component.{Component}
 use Rattle.dfdl_rows.specs.declared.component.Component.TheVariants.{Sequence, CalculatedElement, Hidden}
@@ -44,8 +46,8 @@ use Rattle.dfdl_compile.specs.Delimiters.{framing_with, separated_by}
 use Rattle.dfdl_compile.specs.Shown.{HidesElement}
 use Rattle.dfdl_terms.specs.declared.statement.Statements.{Statements}
 use Rattle.dfdl_written.specs.Noting.{calculated_type}
-use Rattle.dfdl_compile.specs.Statements.{before_by, behind_by, calculation_number, is_set_first, count_by, first_statement, judgements_of, statements_before}
-use Rattle.dfdl_compile.specs.Components.{refusal_at, calculated_by, choice_by, component_by, component_at, component_with, hiding_by, parts_by, element_name, empty_number, framing_of, nil_number, part_numbers, prefix_by, prefix_number, separator_number, terminator_number, tried_by, components_of}
+use Rattle.dfdl_compile.specs.Statements.{before_by, behind_by, calculation_number, count_by, count_number, first_statement, is_set_first, judgements_of, measure_number, statements_before}
+use Rattle.dfdl_compile.specs.Components.{refusal_at, calculated_by, choice_by, component_by, component_at, component_with, counted_by, hiding_by, measure_by, parts_by, element_name, empty_number, framing_of, nil_number, number_if, part_numbers, prefix_by, prefix_number, separator_number, terminator_number, tried_by, components_of}
 
 -- a list that is made from one that is made
 pub twice : {X Y Z : Type 0} (g : Y → Z) (f : X → Y) (xs : List X) → map g (map f xs) ≡ map (λ x. g (f x)) xs
@@ -122,15 +124,26 @@ fits P f g holds a b (x ∷ xs) zero less = holds x
 fits P f g holds a b (x ∷ xs) (suc c) less = fits P f g holds a b xs c (omega (arith, less))
 
 module _ (purpose : Purpose) (refused : Site → Bool) (documents : List SchemaDocument) (own : Site) where
+  -- its length by a question, where it has one
+  abbrev pub measured : Option Measure
+  measured =
+      option_map (measure_by (measure_number (first_statement purpose refused documents own) (judgement_at purpose refused documents own)))
+      (judgement_at purpose refused documents own).measure
+
+  -- what gives how often it occurs
+  abbrev pub often : Counted
+  often = counted_by (judgement_at purpose refused documents own).is_parsed
+      (number_if (count_number (first_statement purpose refused documents own) (judgement_at purpose refused documents own))
+      (judgement_at purpose refused documents own).count)
+
   -- the element or group of this kind that an element of the documents is
   abbrev pub of_kind : Kind → Component
   of_kind kind = component_by purpose (element_name documents own) (primitive_by (judgement_at purpose refused documents own)) (number_of documents own)
       (framing_of documents (first_statement purpose refused documents own) own (judgement_at purpose refused documents own)) (judgement_at purpose refused documents own).size
-      (option_map (prefix_by (prefix_number documents own)) (judgement_at purpose refused documents own).prefix)
+      (option_map (prefix_by (prefix_number documents own)) (judgement_at purpose refused documents own).prefix) measured
       (tried_by (nil_number documents own) (empty_number documents own) (judgement_at purpose refused documents own).others)
       (option_map (separated_by (separator_number documents own)) (judgement_at purpose refused documents own).markup.separator)
-      (judgement_at purpose refused documents own).initiates (judgement_at purpose refused documents own).occurs
-      (judgement_at purpose refused documents own).is_parsed kind
+      (judgement_at purpose refused documents own).initiates (judgement_at purpose refused documents own).occurs often kind
 
   abbrev pub made : Role → Component
   made r = of_kind (kind_by documents own r)

@@ -1,5 +1,5 @@
 -- The statements of the documents as they are written.
-use Rattle.std.proofs.Common.{◌≡◌, ℕ, ◌+◌, ◌<◌, List, [], ◌∷◌, ◌++◌, length, length-append, map, take, get_or, slice_get, All, Option, Some, None, ap, sym, subst, ◌∙◌, refl, arith}
+use Rattle.std.proofs.Common.{◌≡◌, ℕ, ◌+◌, ◌<◌, List, [], ◌∷◌, ◌++◌, length, length-append, map, take, get_or, slice_get, All, Option, Some, None, option_map, ap, sym, subst, ◌∙◌, refl, arith}
 use Rattle.std.specs.List.{flat_map, sum_by}
 use Rattle.std.proofs.lemmas.List.{length-map, take-map}
 use Rattle.std.proofs.lemmas.List.Concat.{get_or-flat_map}
@@ -16,6 +16,7 @@ use Rattle.dfdl_breaches.proofs.Numbering.{at-number}
 use Rattle.std.proofs.Common.{Bool, true, false}
 use Rattle.std.proofs.lemmas.List.Elements.{All-nil}
 use Rattle.dfdl_checks.specs.declared.expression_tests.CheckForm.{CheckForm}
+use Rattle.dfdl_checks.specs.declared.measures.MeasureForm.{MeasureForm}
 use Rattle.dfdl_checks.specs.declared.purpose.Purpose.{Purpose}
 use Rattle.dfdl_chains.specs.Everywhere.{all_sites, for_each}
 use Rattle.dfdl_chains.specs.Parts.{is_component}
@@ -24,7 +25,8 @@ use Rattle.dfdl_breaches.specs.Elements.{place_of}
 use Rattle.dfdl_breaches.specs.declared.judgement.Judgement.{Judgement}
 use Rattle.dfdl_variables.specs.Variables.{variables_of}
 use Rattle.dfdl_variables.specs.declared.variable.Declared.{Declared}
-use Rattle.dfdl_written.specs.Noting.{noted_by, noted_calculation, noted_calculations, noted_check, noted_each, noted_from, noted_parts, noted_setting, noted_test, stated_by}
+use Rattle.dfdl_statements.specs.declared.written.Asked.TheVariants as asked
+use Rattle.dfdl_written.specs.Noting.{length_text, noted_by, noted_calculation, noted_check, noted_each, noted_expressions, noted_from, noted_if, noted_parts, noted_question, noted_setting, noted_test, stated_by}
 use Rattle.dfdl_written.specs.declared.noted.Noted.{Noted}
 use Rattle.dfdl_compile.specs.Shown.{IsStatedWithin}
 use Rattle.dfdl_compile.specs.Statements.{calculation_number, count_by, count_if, count_others, counted, first_statement, judgements_of, noted_at, noted_of}
@@ -57,17 +59,33 @@ module _ (purpose : Purpose) (refused : Site → Bool) (documents : List SchemaD
       (map (noted_setting documents (place_of documents own)) told.settings ++ map (noted_check (place_of documents own)) told.checks) in
       omega (arith, all, behind, tests, settings, checks)
 
-  length_calculations : (own : Site) (o : Option (List ℕ)) → length (noted_calculations documents (place_of documents own) own o) ≡ count_if o
-  length_calculations own None = refl
-  length_calculations own (Some text) = refl
+  length_if : (noted : List ℕ → Noted) (o : Option (List ℕ)) → length (noted_if noted o) ≡ count_if o
+  length_if noted None = refl
+  length_if noted (Some text) = refl
+
+  count_measured : (o : Option MeasureForm) → count_if (option_map length_text o) ≡ count_if o
+  count_measured None = refl
+  count_measured (Some form) = refl
+
+  length_expressions : (own : Site) (told : Judgement)
+      → length (noted_expressions documents (place_of documents own) own told.calculation told.measure told.count)
+      ≡ count_if told.calculation + (count_if told.measure + count_if told.count)
+  length_expressions own told =
+      let calculations : List Noted = noted_if (noted_calculation documents (place_of documents own) own) told.calculation in
+      let lengths : List Noted = noted_if (noted_question documents (place_of documents own) own asked.Length) (option_map length_text told.measure) in
+      let counts : List Noted = noted_if (noted_question documents (place_of documents own) own asked.Count) told.count in
+      let calculated = length_if (noted_calculation documents (place_of documents own) own) told.calculation in
+      let measured = length_if (noted_question documents (place_of documents own) own asked.Length) (option_map length_text told.measure)
+      ∙ count_measured told.measure in
+      let counted = length_if (noted_question documents (place_of documents own) own asked.Count) told.count in
+      length-append calculations (lengths ++ counts)
+      ∙ ((λ i. calculated i + length-append lengths counts i) ∙ (λ i. count_if told.calculation + (measured i + counted i)))
 
   length_by : (own : Site) (told : Judgement) → length (noted_by documents own told) ≡ count_by told
   length_by own told =
-      let parts = length_parts own told in
-      let calculations = length_calculations own told.calculation in
-      let all = length-append (noted_parts documents (place_of documents own) own told.tests told.settings told.checks)
-      (noted_calculations documents (place_of documents own) own told.calculation) in
-      omega (arith, all, parts, calculations)
+      length-append (noted_parts documents (place_of documents own) own told.tests told.settings told.checks)
+      (noted_expressions documents (place_of documents own) own told.calculation told.measure told.count)
+      ∙ (λ i. length_parts own told i + length_expressions own told i)
 
   length_each : (sites : List Site) → length (flat_map (noted_at purpose refused documents) sites) ≡ counted (map (judgement_at purpose refused documents) sites)
   length_each [] = refl
@@ -86,9 +104,11 @@ module _ (purpose : Purpose) (refused : Site → Bool) (documents : List SchemaD
       → get_or (noted_by documents own told) (count_others told) d ≡ noted_calculation documents (place_of documents own) own text
   last_by own told text d is =
       let parts : List Noted = noted_parts documents (place_of documents own) own told.tests told.settings told.checks in
-      ap (λ (o : Option (List ℕ)). get_or (parts ++ noted_calculations documents (place_of documents own) own o) (count_others told) d) is
-      ∙ (ap (λ (n : ℕ). get_or (parts ++ noted_calculation documents (place_of documents own) own text ∷ []) n d) (sym (length_parts own told))
-      ∙ get_or-append_seam parts (noted_calculation documents (place_of documents own) own text) [] d)
+      let questions : List Noted = noted_if (noted_question documents (place_of documents own) own asked.Length) (option_map length_text told.measure)
+      ++ noted_if (noted_question documents (place_of documents own) own asked.Count) told.count in
+      ap (λ (o : Option (List ℕ)). get_or (parts ++ (noted_if (noted_calculation documents (place_of documents own) own) o ++ questions)) (count_others told) d) is
+      ∙ (ap (λ (n : ℕ). get_or (parts ++ noted_calculation documents (place_of documents own) own text ∷ questions) n d) (sym (length_parts own told))
+      ∙ get_or-append_seam parts (noted_calculation documents (place_of documents own) own text) questions d)
 
   before_is : (own : Site) → length (flat_map (noted_at purpose refused documents) (take (number_of documents own) (all_sites documents)))
       ≡ first_statement purpose refused documents own

@@ -6,6 +6,7 @@ use Rattle.dfdl_documents.specs.Documents.{SchemaDocument}
 use Rattle.dfdl_components.specs.declared.site.Site.{Site}
 use Rattle.dfdl_components.specs.Sites.{IsSite}
 use Rattle.dfdl_components.specs.Recursion.{count_of, number_of}
+use Rattle.dfdl_checks.specs.declared.measures.MeasureForm.{MeasureForm}
 use Rattle.dfdl_checks.specs.declared.prefixes.PrefixForm.{PrefixForm}
 use Rattle.dfdl_checks.specs.declared.tried.OtherRepresentations.{OtherRepresentations}
 use Rattle.dfdl_checks.specs.declared.delimiters.Delimiting.{Delimiting}
@@ -22,16 +23,19 @@ use Rattle.dfdl_breaches.specs.declared.judgement.Judgement.{Judgement}
 use Rattle.dfdl_breaches.proofs.Numbering.{value-at}
 use Rattle.dfdl_terms.specs.declared.delimiters.Delimiters.{Delimiters}
 use Rattle.dfdl_terms.specs.declared.framing.Framing.{Framing}
+use Rattle.dfdl_terms.specs.declared.prefix.Measure.{Measure}
+use Rattle.dfdl_terms.specs.declared.prefix.Prefix.{Prefix}
 use Rattle.dfdl_terms.specs.Rows.{AreWithin, AreStatements, IsWithin}
 use Rattle.dfdl_terms.specs.declared.row.Primitive.{Primitive}
 use Rattle.dfdl_terms.specs.declared.row.Row.TheVariants.{Choice}
-use Rattle.dfdl_rows.specs.Components.{Schema, HasDelimiters, HasList, HasPrimitive, HasBoxPrimitive, HasPrefixPrimitive, HasSeparators, HasStatements}
+use Rattle.dfdl_rows.specs.Components.{Schema, HasDelimiters, HasList, HasPrimitive, HasBoxPrimitive, HasBoxQuestion, HasLeafQuestion, HasPrefixPrimitive, HasSeparators, HasStatements}
+use Rattle.dfdl_rows.specs.Times.{question_of}
 use Rattle.dfdl_rows.specs.declared.component.Separated.{Separated}
 use Rattle.dfdl_rows.specs.declared.component.Component.TheVariants.{Sequence, SimpleElement, CalculatedElement}
-use Rattle.dfdl_compile.specs.Components.{box_by, choice_by, component_at, components_of, delimiters_of, empty_number, framing_of, initiator_list_at, nil_number, number_if, prefix_by, prefix_number, primitives_of, separator_list_at, separator_number, terminator_list_at, terminator_number, tried_by}
-use Rattle.dfdl_compile.specs.Statements.{before_by, behind_by, count_by, counted, first_statement, is_set_first, judgements_of, noted_of, calculation_number, count_if}
+use Rattle.dfdl_compile.specs.Components.{box_by, choice_by, component_at, components_of, counted_by, delimiters_of, empty_number, framing_of, initiator_list_at, leaf_length_by, measure_by, nil_number, number_if, prefix_by, prefix_number, primitives_of, separator_list_at, separator_number, terminator_list_at, terminator_number, tried_by}
+use Rattle.dfdl_compile.specs.Statements.{before_by, behind_by, calculation_number, count_by, count_if, count_number, counted, first_statement, is_set_first, judgements_of, measure_number, noted_of}
 use Rattle.dfdl_compile.specs.Delimiters.{delimiter_by, separated_by}
-use Rattle.dfdl_compile.proofs.Fitting.{all_within, each, of_kind, by_component}
+use Rattle.dfdl_compile.proofs.Fitting.{all_within, by_component, each, measured, of_kind, often}
 use Rattle.dfdl_compile.proofs.Noted.{length_noted}
 use Rattle.dfdl_compile.proofs.Taken.{count_primitives, length_primitives, length_lists}
 
@@ -62,14 +66,18 @@ module _ (purpose : Purpose) (refused : Site → Bool) (documents : List SchemaD
       by_others : (others : OtherRepresentations) → AreWithin count (tried_by (nil_number documents own) (empty_number documents own) others)
       by_others others = (by_number (nil_number documents own) nil_below others.nil, by_number (empty_number documents own) empty_below others.empty)
 
-      by_prefix : (o : Option PrefixForm) → HasPrefixPrimitive count (option_map (prefix_by (prefix_number documents own)) o)
-      by_prefix None = tt
-      by_prefix (Some form) = prefix_below
+      by_prefix : (o : Option PrefixForm) (m : Option Measure)
+          → HasPrefixPrimitive count (leaf_length_by (option_map (prefix_by (prefix_number documents own)) o) m)
+      by_prefix None None = tt
+      by_prefix None (Some measure) = tt
+      by_prefix (Some form) m = prefix_below
 
-      by_box : (size : Option ℕ) (o : Option PrefixForm) → HasBoxPrimitive count (box_by size (option_map (prefix_by (prefix_number documents own)) o))
-      by_box (Some bits) o = tt
-      by_box None None = tt
-      by_box None (Some form) = prefix_below
+      by_box : (size : Option ℕ) (o : Option PrefixForm) (m : Option Measure)
+          → HasBoxPrimitive count (box_by size (option_map (prefix_by (prefix_number documents own)) o) m)
+      by_box (Some bits) o m = tt
+      by_box None None None = tt
+      by_box None None (Some measure) = tt
+      by_box None (Some form) m = prefix_below
 
       by_choice : (q : Purpose) (framing : Framing) (own : Option Separated) (initiated : Bool) → HasPrimitive count (choice_by q framing own initiated)
       by_choice Parsing framing own initiated = tt
@@ -77,9 +85,10 @@ module _ (purpose : Purpose) (refused : Site → Bool) (documents : List SchemaD
 
       by_kind : (k : Kind) → HasPrimitive count (of_kind purpose refused documents own k)
       by_kind kind.ComplexElement = by_box (judgement_at purpose refused documents own).size (judgement_at purpose refused documents own).prefix
-      by_kind (kind.SimpleElement simple) = (own_below, by_prefix (judgement_at purpose refused documents own).prefix, by_others (judgement_at purpose refused documents own).others)
-      by_kind kind.UncarriedElement = (own_below, by_prefix (judgement_at purpose refused documents own).prefix, by_others (judgement_at purpose refused documents own).others)
-      by_kind (kind.CalculatedElement simple) = (own_below, by_prefix (judgement_at purpose refused documents own).prefix, by_others (judgement_at purpose refused documents own).others)
+          (measured purpose refused documents own)
+      by_kind (kind.SimpleElement simple) = (own_below, by_prefix (judgement_at purpose refused documents own).prefix (measured purpose refused documents own), by_others (judgement_at purpose refused documents own).others)
+      by_kind kind.UncarriedElement = (own_below, by_prefix (judgement_at purpose refused documents own).prefix (measured purpose refused documents own), by_others (judgement_at purpose refused documents own).others)
+      by_kind (kind.CalculatedElement simple) = (own_below, by_prefix (judgement_at purpose refused documents own).prefix (measured purpose refused documents own), by_others (judgement_at purpose refused documents own).others)
       by_kind kind.Sequence = tt
       by_kind kind.HiddenSequence = tt
       by_kind kind.Choice = by_choice purpose (framing_of documents (first_statement purpose refused documents own) own (judgement_at purpose refused documents own))
@@ -194,10 +203,31 @@ module _ (purpose : Purpose) (refused : Site → Bool) (documents : List SchemaD
   behind_within first true told fit = omega (arith, fit)
   behind_within first false told fit = omega (arith, fit)
 
+  -- so is the question of a length, where there is one
+  box_question : (number : ℕ) (size : Option ℕ) (prefix : Option Prefix) (o : Option MeasureForm) → number + count_if o ≤ count_statements
+      → HasBoxQuestion count_statements (box_by size prefix (option_map (measure_by number) o))
+  box_question number (Some bits) prefix o fit = tt
+  box_question number None (Some prefix) o fit = tt
+  box_question number None None None fit = tt
+  box_question number None None (Some form) fit = omega (arith, fit)
+
+  leaf_question : (number : ℕ) (prefix : Option Prefix) (o : Option MeasureForm) → number + count_if o ≤ count_statements
+      → HasLeafQuestion count_statements (leaf_length_by prefix (option_map (measure_by number) o))
+  leaf_question number (Some prefix) o fit = tt
+  leaf_question number None None fit = tt
+  leaf_question number None (Some form) fit = omega (arith, fit)
+
+  -- so is that of a number of occurrences
+  count_question : (number : ℕ) (parsed : Bool) (o : Option (List ℕ)) → number + count_if o ≤ count_statements
+      → IsWithin count_statements (question_of (counted_by parsed (number_if number o)))
+  count_question number parsed (Some text) fit = omega (arith, fit)
+  count_question number true None fit = tt
+  count_question number false None fit = tt
+
   has_statements : (own : Site) → IsSite documents own → HasStatements count_statements (component_at purpose refused documents own)
   has_statements own within =
-      by_component purpose refused documents own (HasStatements count_statements) (omega arith, omega arith, tt)
-      (λ text told. (before, behind, calculation text told)) (by_kind (kind_at documents own))
+      by_component purpose refused documents own (HasStatements count_statements) (omega arith, omega arith, tt, tt)
+      (λ text told. (before, behind, calculation text told, tt)) (by_kind (kind_at documents own))
     where
       before : AreStatements count_statements (framing_of documents (first_statement purpose refused documents own) own (judgement_at purpose refused documents own)).before
       before = before_within (first_statement purpose refused documents own) (is_set_first (kind_at documents own)) (judgement_at purpose refused documents own) (counted_within own within)
@@ -211,22 +241,41 @@ module _ (purpose : Purpose) (refused : Site → Bool) (documents : List SchemaD
           let one : count_if (judgement_at purpose refused documents own).calculation ≡ 1 = ap count_if told in
           omega (arith, one, counted_within own within)
 
+      prefix : Option Prefix
+      prefix = option_map (prefix_by (prefix_number documents own)) (judgement_at purpose refused documents own).prefix
+
+      measure_fits : measure_number (first_statement purpose refused documents own) (judgement_at purpose refused documents own)
+          + count_if (judgement_at purpose refused documents own).measure ≤ count_statements
+      measure_fits = omega (arith, counted_within own within)
+
+      boxed : HasBoxQuestion count_statements (box_by (judgement_at purpose refused documents own).size prefix (measured purpose refused documents own))
+      boxed = box_question (measure_number (first_statement purpose refused documents own) (judgement_at purpose refused documents own))
+          (judgement_at purpose refused documents own).size prefix (judgement_at purpose refused documents own).measure measure_fits
+
+      sized : HasLeafQuestion count_statements (leaf_length_by prefix (measured purpose refused documents own))
+      sized = leaf_question (measure_number (first_statement purpose refused documents own) (judgement_at purpose refused documents own))
+          prefix (judgement_at purpose refused documents own).measure measure_fits
+
+      told_often : IsWithin count_statements (question_of (often purpose refused documents own))
+      told_often = count_question (count_number (first_statement purpose refused documents own) (judgement_at purpose refused documents own))
+          (judgement_at purpose refused documents own).is_parsed (judgement_at purpose refused documents own).count (omega (arith, counted_within own within))
+
       by_choice : (q : Purpose) → HasStatements count_statements
           (choice_by q (framing_of documents (first_statement purpose refused documents own) own (judgement_at purpose refused documents own))
           (option_map (separated_by (separator_number documents own)) (judgement_at purpose refused documents own).markup.separator)
           (judgement_at purpose refused documents own).initiates)
-      by_choice Parsing = (before, behind, tt)
-      by_choice Unparsing = (before, behind, tt)
+      by_choice Parsing = (before, behind, tt, tt)
+      by_choice Unparsing = (before, behind, tt, tt)
 
       by_kind : (k : Kind) → HasStatements count_statements (of_kind purpose refused documents own k)
-      by_kind kind.ComplexElement = (before, behind, tt)
-      by_kind (kind.SimpleElement simple) = (before, behind, tt)
-      by_kind kind.UncarriedElement = (before, behind, tt)
-      by_kind (kind.CalculatedElement simple) = (before, behind, tt)
-      by_kind kind.Sequence = (before, behind, tt)
-      by_kind kind.HiddenSequence = (before, behind, tt)
+      by_kind kind.ComplexElement = (before, behind, tt, (boxed, told_often))
+      by_kind (kind.SimpleElement simple) = (before, behind, tt, (sized, told_often))
+      by_kind kind.UncarriedElement = (before, behind, tt, (sized, told_often))
+      by_kind (kind.CalculatedElement simple) = (before, behind, tt, (sized, told_often))
+      by_kind kind.Sequence = (before, behind, tt, tt)
+      by_kind kind.HiddenSequence = (before, behind, tt, tt)
       by_kind kind.Choice = by_choice purpose
-      by_kind (kind.PrefixNumber simple) = (before, behind, tt)
+      by_kind (kind.PrefixNumber simple) = (before, behind, tt, tt)
 
   -- the statements of each component are some of those that are noted
   pub have_statements : (schema : Schema) (count : ℕ) → schema ≡ components_of purpose refused documents

@@ -18,15 +18,16 @@ use Rattle.dfdl_chains.specs.Kinds.{kind_at}
 use Rattle.dfdl_chains.proofs.Numbering.{number_below}
 use Rattle.dfdl_breaches.specs.Judging.{judgement_at}
 use Rattle.dfdl_breaches.proofs.Numbering.{value-at}
-use Rattle.dfdl_terms.specs.Leaves.{ReadsBy, leaf, prefixed, grouped, scoped, calculated}
+use Rattle.dfdl_terms.specs.Leaves.{ReadsBy, leaf, prefixed, measured, grouped, scoped, calculated}
 use Rattle.dfdl_terms.specs.declared.framing.Framing.{Framing}
 use Rattle.dfdl_terms.specs.declared.occurs.Occurs.{Occurs}
-use Rattle.dfdl_terms.specs.declared.prefix.Prefix.{Prefix}
 use Rattle.dfdl_terms.specs.declared.representations.Representations.{Representations}
 use Rattle.dfdl_terms.specs.Rows.{Table}
 use Rattle.dfdl_terms.specs.declared.row.Primitive.{Primitive}
 use Rattle.dfdl_terms.specs.declared.row.Row.{Row}
-use Rattle.dfdl_terms.specs.declared.row.Row.TheVariants.{Leaf, Elem, Group, Skip, Align, Initiator, Terminator, Separator, Scope, Boxed, PrefixedLeaf, PrefixedBox, Repeat, Optional, Choice, Statement, Concluded, Hidden, Separated as SeparatedRow}
+use Rattle.dfdl_terms.specs.declared.row.Row.TheVariants.{Leaf, Elem, Group, Skip, Align, Initiator, Terminator, Separator, Scope, Boxed, PrefixedLeaf, PrefixedBox, MeasuredLeaf, MeasuredBox, Repeat, Counted as CountedRow, Optional, Choice, Dispatch, Statement, Concluded, Hidden, Separated as SeparatedRow}
+use Rattle.dfdl_rows.specs.declared.component.Counted.{Counted}
+use Rattle.dfdl_rows.specs.declared.component.LeafLength.{LeafLength}
 use Rattle.dfdl_rows.specs.declared.component.Separated.{Separated}
 use Rattle.dfdl_rows.specs.Leaves.{HaveLeaves, HaveBareLeaves, IsAmong, IsCalculated, IsLeafOf}
 use Rattle.dfdl_rows.specs.declared.component.Component.{Component}
@@ -46,21 +47,21 @@ use Rattle.dfdl_compile.proofs.Taken.{length_each}
 
 module _ (purpose : Purpose) (refused : Site → Bool) (documents : List SchemaDocument) where
   -- a component that is a simple element has the type of its primitive, and the primitive's number
-  typed_component : (own : Site) (name : List ℕ) (simple : Simple) (prim : ℕ) (framing : Framing) (prefix : Option Prefix) (tried : Representations) (scanned : Bool) (occurs : Occurs) (parsed : Bool)
-      → component_at purpose refused documents own ≡ SimpleElement name simple prim framing prefix tried scanned occurs parsed
+  typed_component : (own : Site) (name : List ℕ) (simple : Simple) (prim : ℕ) (framing : Framing) (own_length : LeafLength) (tried : Representations) (scanned : Bool) (occurs : Occurs) (often : Counted)
+      → component_at purpose refused documents own ≡ SimpleElement name simple prim framing own_length tried scanned occurs often
       → (type_of (primitive_at purpose refused documents own) ≡ simple) × (number_of documents own ≡ prim)
-  typed_component own name simple prim framing prefix tried scanned occurs parsed =
+  typed_component own name simple prim framing own_length tried scanned occurs often =
       by_component purpose refused documents own
-      (λ (c : Component). c ≡ SimpleElement name simple prim framing prefix tried scanned occurs parsed
+      (λ (c : Component). c ≡ SimpleElement name simple prim framing own_length tried scanned occurs often
       → (type_of (primitive_at purpose refused documents own) ≡ simple) × (number_of documents own ≡ prim))
       (λ is. absurd (cc)) (λ text told is. absurd (cc)) (by_kind (kind_at documents own))
     where
       no_choice : (q : Purpose) (f : Framing) (separated : Option Separated) (initiated : Bool)
-          → choice_by q f separated initiated ≡ SimpleElement name simple prim framing prefix tried scanned occurs parsed → ⊥
+          → choice_by q f separated initiated ≡ SimpleElement name simple prim framing own_length tried scanned occurs often → ⊥
       no_choice Parsing f separated initiated is = absurd (cc)
       no_choice Unparsing f separated initiated is = absurd (cc)
 
-      by_kind : (k : Kind) → of_kind purpose refused documents own k ≡ SimpleElement name simple prim framing prefix tried scanned occurs parsed
+      by_kind : (k : Kind) → of_kind purpose refused documents own k ≡ SimpleElement name simple prim framing own_length tried scanned occurs often
           → (type_of (primitive_at purpose refused documents own) ≡ simple) × (number_of documents own ≡ prim)
       by_kind kind.ComplexElement is = absurd (cc)
       by_kind (kind.SimpleElement other) is = (cc, cc)
@@ -92,18 +93,18 @@ module _ (purpose : Purpose) (refused : Site → Bool) (documents : List SchemaD
   -- the leaf of a simple element among the components has the element's type
   among_typed : (simple : Simple) (prim : ℕ) → IsAmong (map (component_at purpose refused documents) (all_sites documents)) simple prim
       → IsOfType simple (slice_get (primitives_of purpose refused documents) prim)
-  among_typed simple prim (number, name, framing, prefix, tried, scanned, occurs, parsed, is) =
+  among_typed simple prim (number, name, framing, own_length, tried, scanned, occurs, often, is) =
       let less : number < length (all_sites documents) = omega (
         arith,
-        slice_get_within (map (component_at purpose refused documents) (all_sites documents)) number (SimpleElement name simple prim framing prefix tried scanned occurs parsed) is,
+        slice_get_within (map (component_at purpose refused documents) (all_sites documents)) number (SimpleElement name simple prim framing own_length tried scanned occurs often) is,
         length-map (all_sites documents) (component_at purpose refused documents),
       ) in
       let own : Site = get_or (all_sites documents) number (site 0 0) in
-      let found : Some (component_at purpose refused documents own) ≡ Some (SimpleElement name simple prim framing prefix tried scanned occurs parsed) =
+      let found : Some (component_at purpose refused documents own) ≡ Some (SimpleElement name simple prim framing own_length tried scanned occurs often) =
       sym (slice_get-map (component_at purpose refused documents) (all_sites documents) number
       ∙ ap (option_map (component_at purpose refused documents)) (slice_get-get_or (all_sites documents) number (site 0 0) less)) ∙ is in
-      let same : component_at purpose refused documents own ≡ SimpleElement name simple prim framing prefix tried scanned occurs parsed = cc in
-      let both = typed_component own name simple prim framing prefix tried scanned occurs parsed same in
+      let same : component_at purpose refused documents own ≡ SimpleElement name simple prim framing own_length tried scanned occurs often = cc in
+      let both = typed_component own name simple prim framing own_length tried scanned occurs often same in
       subst (λ (n : ℕ). IsOfType simple (slice_get (primitives_of purpose refused documents) n)) both.1
       (subst (λ (o : Option Primitive). IsOfType simple o) (sym (there own (all_within documents number (site 0 0) less))) both.0)
 
@@ -121,9 +122,13 @@ module _ (purpose : Purpose) (refused : Site → Bool) (documents : List SchemaD
   leaf_typed simple (Some (Boxed bits inside)) one = absurd one
   leaf_typed simple (Some (PrefixedLeaf prefix prim)) one = absurd one
   leaf_typed simple (Some (PrefixedBox prefix inside)) one = absurd one
+  leaf_typed simple (Some (MeasuredLeaf measure prim)) one = absurd one
+  leaf_typed simple (Some (MeasuredBox measure inside)) one = absurd one
   leaf_typed simple (Some (Repeat count inside)) one = absurd one
+  leaf_typed simple (Some (CountedRow question inside)) one = absurd one
   leaf_typed simple (Some (Optional most item initiated inside)) one = absurd one
   leaf_typed simple (Some (Choice branches initiated)) one = absurd one
+  leaf_typed simple (Some (Dispatch question keys)) one = absurd one
   leaf_typed simple (Some (Statement statement)) one = absurd one
   leaf_typed simple (Some (Concluded behind inside)) one = absurd one
   leaf_typed simple (Some (Hidden inside)) one = absurd one
@@ -188,6 +193,7 @@ module _ (purpose : Purpose) (refused : Site → Bool) (documents : List SchemaD
       (λ number. CalculatesType simple (slice_get t.statements number)) id
   reads_typed t simple made id (leaf _ prim is among) = leaf id prim is (among_typed simple prim among)
   reads_typed t simple made id (prefixed _ prim prefix is among) = prefixed id prim prefix is (among_typed simple prim among)
+  reads_typed t simple made id (measured _ prim measure is among) = measured id prim measure is (among_typed simple prim among)
   reads_typed t simple made id (grouped _ at child children is there reads) = grouped id at child children is there (reads_typed t simple made child reads)
   reads_typed t simple made id (scoped _ list body is reads) = scoped id list body is (reads_typed t simple made body reads)
   reads_typed t simple made id (calculated _ number is one) =

@@ -1,13 +1,14 @@
 -- The components of a schema's documents: each element of them is one, by its number among those of all
 -- documents. What is no component is an empty sequence, and nothing reaches it ('DFDL Schema Component
 -- Model').
-use Rattle.std.specs.Prelude.{ℕ, ◌+◌, Bool, List, [], ◌∷◌, ◌++◌, map, Option, None, Some, option_map, codes}
+use Rattle.std.specs.Prelude.{ℕ, ◌+◌, Bool, true, false, List, [], ◌∷◌, ◌++◌, map, Option, None, Some, option_map, codes}
 use Rattle.std.specs.Option.{unwrap_or}
 use Rattle.dfdl_forms.specs.declared.simple.Simple.{Simple}
 use Rattle.dfdl_documents.specs.Documents.{SchemaDocument}
 use Rattle.dfdl_components.specs.declared.site.Site.{Site}
 use Rattle.dfdl_components.specs.Recursion.{count_of, number_of}
 use Rattle.dfdl_checks.specs.Numbers.{type_of}
+use Rattle.dfdl_checks.specs.declared.measures.MeasureForm.{MeasureForm}
 use Rattle.dfdl_checks.specs.declared.tried.OtherRepresentations.{OtherRepresentations}
 use Rattle.dfdl_checks.specs.declared.prefixes.PrefixForm.{PrefixForm}
 use Rattle.dfdl_checks.specs.declared.purpose.Purpose.{Purpose}
@@ -24,19 +25,24 @@ use Rattle.dfdl_breaches.specs.Elements.{place_of}
 use Rattle.dfdl_breaches.specs.Judging.{judgement_at}
 use Rattle.dfdl_terms.specs.declared.framing.Framing.{Framing}
 use Rattle.dfdl_terms.specs.declared.occurs.Occurs.{Occurs}
+use Rattle.dfdl_terms.specs.declared.prefix.Measure.{Measure}
 use Rattle.dfdl_terms.specs.declared.prefix.Prefix.{Prefix}
 use Rattle.dfdl_terms.specs.declared.representations.Representations.{Representations}
 use Rattle.dfdl_terms.specs.declared.row.Primitive.{Primitive}
 use Rattle.dfdl_rows.specs.Components.{Schema}
 use Rattle.dfdl_rows.specs.declared.component.ContentBox.{ContentBox}
-use Rattle.dfdl_rows.specs.declared.component.ContentBox.TheVariants.{Unbounded, Sized, Prefixed}
+use Rattle.dfdl_rows.specs.declared.component.ContentBox.TheVariants.{Unbounded, Sized, Prefixed, Measured}
+use Rattle.dfdl_rows.specs.declared.component.Counted.{Counted}
+use Rattle.dfdl_rows.specs.declared.component.Counted.TheVariants.{ByBounds, Parsed, Told}
+use Rattle.dfdl_rows.specs.declared.component.LeafLength.{LeafLength}
+use Rattle.dfdl_rows.specs.declared.component.LeafLength.TheVariants as leaf_length
 use Rattle.dfdl_rows.specs.declared.component.Component.{Component}
 use Rattle.dfdl_rows.specs.declared.component.Component.TheVariants.{Sequence, Choice, ComplexElement, SimpleElement, CalculatedElement, Hidden}
 use Rattle.dfdl_rows.specs.declared.component.Separated.{Separated}
 use Rattle.dfdl_rows.specs.declared.refusal.Refusal.{Refusal}
 use Rattle.dfdl_terms.specs.declared.delimiters.Delimiters.{Delimiters}
 use Rattle.dfdl_written.specs.Noting.{calculated_type}
-use Rattle.dfdl_compile.specs.Statements.{calculation_number, first_statement, is_set_first}
+use Rattle.dfdl_compile.specs.Statements.{calculation_number, count_number, first_statement, is_set_first, measure_number}
 use Rattle.dfdl_compile.specs.Delimiters.{framing_by, initiator_list_by, separated_by, separator_list_by, terminator_list_by}
 use Rattle.dfdl_compile.specs.Primitives.{empty_primitive_by, is_scanned, nil_primitive_by, prefix_primitive_by, primitive_by}
 
@@ -73,10 +79,10 @@ abbrev pub framing_of : List SchemaDocument → ℕ → Site → Judgement → F
 framing_of documents first own judgement =
     framing_by (is_set_first (kind_at documents own)) first (number_of documents own) (terminator_number documents own) judgement
 
--- the number of a primitive, where there is one
-abbrev pub number_if : ℕ → Option Primitive → Option ℕ
+-- the number of something, where there is one
+abbrev pub number_if : {X : Type 0} → ℕ → Option X → Option ℕ
 number_if number None = None
-number_if number (Some primitive) = Some number
+number_if number (Some given) = Some number
 
 -- the representations of an element of which this is told, that are tried before its normal one, where the primitives of its nil and
 -- its empty one have these numbers
@@ -92,11 +98,28 @@ tried_by nil empty others = record {
 abbrev pub prefix_by : ℕ → PrefixForm → Prefix
 prefix_by number form = record { prim = number; unit = form.unit; own = form.own }
 
--- the box around the content of a complex element: one of so many bits, that of a prefix, or none
-abbrev pub box_by : Option ℕ → Option Prefix → ContentBox
-box_by (Some bits) prefix = Sized bits
-box_by None (Some prefix) = Prefixed prefix
-box_by None None = Unbounded
+-- a length by the question of this number
+abbrev pub measure_by : ℕ → MeasureForm → Measure
+measure_by number form = record { question = number; unit = form.unit }
+
+-- the box around the content of a complex element: one of so many bits, that of a prefix, that of a question, or none
+abbrev pub box_by : Option ℕ → Option Prefix → Option Measure → ContentBox
+box_by (Some bits) prefix measure = Sized bits
+box_by None (Some prefix) measure = Prefixed prefix
+box_by None None (Some measure) = Measured measure
+box_by None None None = Unbounded
+
+-- what gives the length of the content of a simple element: a prefix, a question, or the primitive that it is read by
+abbrev pub leaf_length_by : Option Prefix → Option Measure → LeafLength
+leaf_length_by (Some prefix) measure = leaf_length.Prefixed prefix
+leaf_length_by None (Some measure) = leaf_length.Measured measure
+leaf_length_by None None = leaf_length.Own
+
+-- what gives how often an element occurs: the question of this number, or its bounds, by kind parsed or not
+abbrev pub counted_by : Bool → Option ℕ → Counted
+counted_by parsed (Some question) = Told question
+counted_by true None = Parsed
+counted_by false None = ByBounds
 
 -- a choice with this framing and these separators, whose content is initiated or isn't: for unparsing it is refused, and stands for a group
 -- with nothing of its own
@@ -105,25 +128,25 @@ choice_by Parsing framing separated initiated = Choice framing initiated
 choice_by Unparsing framing separated initiated = Sequence framing separated initiated
 
 -- an element or a group, of which this is its name, how its values lie in the data, its number, what frames its content and the box
--- around it, its length prefix, the representations that are tried before its normal one, its separators, whether its content is initiated,
--- how often it occurs, and whether by kind parsed
-abbrev pub component_by : Purpose → List ℕ → Primitive → ℕ → Framing → Option ℕ → Option Prefix → Representations → Option Separated → Bool → Occurs
-    → Bool → Kind → Component
-component_by purpose name primitive number framing size prefix tried separated initiated occurs parsed kind.ComplexElement =
-    ComplexElement name framing (box_by size prefix) occurs parsed
-component_by purpose name primitive number framing size prefix tried separated initiated occurs parsed (kind.SimpleElement simple) =
-    SimpleElement name (type_of primitive) number framing prefix tried (is_scanned primitive) occurs parsed
-component_by purpose name primitive number framing size prefix tried separated initiated occurs parsed kind.UncarriedElement =
-    SimpleElement name (type_of primitive) number framing prefix tried (is_scanned primitive) occurs parsed
-component_by purpose name primitive number framing size prefix tried separated initiated occurs parsed (kind.CalculatedElement simple) =
-    SimpleElement name (type_of primitive) number framing prefix tried (is_scanned primitive) occurs parsed
-component_by purpose name primitive number framing size prefix tried separated initiated occurs parsed kind.Sequence =
+-- around it, its length prefix, its length by a question, the representations that are tried before its normal one, its separators, whether its
+-- content is initiated, how often it occurs, and what gives that
+abbrev pub component_by : Purpose → List ℕ → Primitive → ℕ → Framing → Option ℕ → Option Prefix → Option Measure → Representations → Option Separated
+    → Bool → Occurs → Counted → Kind → Component
+component_by purpose name primitive number framing size prefix measure tried separated initiated occurs counted kind.ComplexElement =
+    ComplexElement name framing (box_by size prefix measure) occurs counted
+component_by purpose name primitive number framing size prefix measure tried separated initiated occurs counted (kind.SimpleElement simple) =
+    SimpleElement name (type_of primitive) number framing (leaf_length_by prefix measure) tried (is_scanned primitive) occurs counted
+component_by purpose name primitive number framing size prefix measure tried separated initiated occurs counted kind.UncarriedElement =
+    SimpleElement name (type_of primitive) number framing (leaf_length_by prefix measure) tried (is_scanned primitive) occurs counted
+component_by purpose name primitive number framing size prefix measure tried separated initiated occurs counted (kind.CalculatedElement simple) =
+    SimpleElement name (type_of primitive) number framing (leaf_length_by prefix measure) tried (is_scanned primitive) occurs counted
+component_by purpose name primitive number framing size prefix measure tried separated initiated occurs counted kind.Sequence =
     Sequence framing separated initiated
-component_by purpose name primitive number framing size prefix tried separated initiated occurs parsed kind.HiddenSequence =
+component_by purpose name primitive number framing size prefix measure tried separated initiated occurs counted kind.HiddenSequence =
     Sequence framing separated initiated
-component_by purpose name primitive number framing size prefix tried separated initiated occurs parsed kind.Choice =
+component_by purpose name primitive number framing size prefix measure tried separated initiated occurs counted kind.Choice =
     choice_by purpose framing separated initiated
-component_by purpose name primitive number framing size prefix tried separated initiated occurs parsed (kind.PrefixNumber simple) =
+component_by purpose name primitive number framing size prefix measure tried separated initiated occurs counted (kind.PrefixNumber simple) =
     Sequence framing separated initiated
 
 -- a component that hides the group of this sequence or choice, or none
@@ -145,9 +168,10 @@ component_with purpose documents first own judgement =
     (component_by purpose (element_name documents own) (primitive_by judgement) (number_of documents own) (framing_of documents first own judgement)
     judgement.size
     (option_map (prefix_by (prefix_number documents own)) judgement.prefix)
+    (option_map (measure_by (measure_number first judgement)) judgement.measure)
     (tried_by (nil_number documents own) (empty_number documents own) judgement.others)
-    (option_map (separated_by (separator_number documents own)) judgement.markup.separator) judgement.initiates judgement.occurs judgement.is_parsed
-    (kind_at documents own)))
+    (option_map (separated_by (separator_number documents own)) judgement.markup.separator) judgement.initiates judgement.occurs
+    (counted_by judgement.is_parsed (number_if (count_number first judgement) judgement.count)) (kind_at documents own)))
 
 -- what an element of the documents is
 abbrev pub component_at : Purpose → (Site → Bool) → List SchemaDocument → Site → Component

@@ -11,7 +11,7 @@ use Rattle.dfdl_terms.specs.declared.representations.Representations.{Representa
 use Rattle.dfdl_terms.specs.declared.row.Primitive.{Primitive}
 use Rattle.dfdl_terms.specs.declared.row.Primitive.TheVariants.{Integer, Packed, Truth, Octets, Text, NilOctets, Default, NilValues, Pattern}
 use Rattle.dfdl_terms.specs.declared.row.Row.{Row}
-use Rattle.dfdl_terms.specs.declared.row.Row.TheVariants.{Leaf, Elem, Group, Skip, Align, Initiator, Terminator, Separator, Scope, Boxed, PrefixedLeaf, PrefixedBox, Repeat, Optional, Choice, Statement, Concluded, Hidden, Separated}
+use Rattle.dfdl_terms.specs.declared.row.Row.TheVariants.{Leaf, Elem, Group, Skip, Align, Initiator, Terminator, Separator, Scope, Boxed, PrefixedLeaf, PrefixedBox, MeasuredLeaf, MeasuredBox, Repeat, Counted, Optional, Choice, Dispatch, Statement, Concluded, Hidden, Separated}
 use Rattle.dfdl_terms.specs.declared.statement.Statement.{Statement as AnyStatement}
 use Rattle.dfdl_terms.specs.declared.statement.Statement.TheVariants as any
 use Rattle.dfdl_terms.specs.declared.statement.Statements.{Statements}
@@ -81,6 +81,7 @@ CalculatesType simple (Some (any.Calculation calculation)) = calculation.kind �
 CalculatesType simple (Some (any.Pattern test)) = ⊥
 CalculatesType simple (Some (any.Expression test)) = ⊥
 CalculatesType simple (Some (any.Setting setting)) = ⊥
+CalculatesType simple (Some (any.Question question)) = ⊥
 
 -- the body of each simple element reads a value by a primitive of the element's type, or calculates one of the type
 abbrev pub HasTypedLeaves : Table → Type 0
@@ -102,9 +103,13 @@ IsLeafOfType primitives simple (Some (Scope list inside)) = ⊥
 IsLeafOfType primitives simple (Some (Boxed bits inside)) = ⊥
 IsLeafOfType primitives simple (Some (PrefixedLeaf prefix prim)) = ⊥
 IsLeafOfType primitives simple (Some (PrefixedBox prefix inside)) = ⊥
+IsLeafOfType primitives simple (Some (MeasuredLeaf measure prim)) = ⊥
+IsLeafOfType primitives simple (Some (MeasuredBox measure inside)) = ⊥
 IsLeafOfType primitives simple (Some (Repeat count inside)) = ⊥
+IsLeafOfType primitives simple (Some (Counted question inside)) = ⊥
 IsLeafOfType primitives simple (Some (Optional most item initiated inside)) = ⊥
 IsLeafOfType primitives simple (Some (Choice branches initiated)) = ⊥
+IsLeafOfType primitives simple (Some (Dispatch question keys)) = ⊥
 IsLeafOfType primitives simple (Some (Statement statement)) = ⊥
 IsLeafOfType primitives simple (Some (Concluded behind inside)) = ⊥
 IsLeafOfType primitives simple (Some (Hidden inside)) = ⊥

@@ -1,6 +1,7 @@
 -- The statements of the components of a schema: one list of those of all elements of its documents, in which those of an element stand
--- behind those of all elements before it: its tests of patterns, what sets variables, its tests of expressions, and the calculation of its
--- value ('DFDL Schema Component Model', on asserts, discriminators and variables; 'Calculated Values').
+-- behind those of all elements before it: its tests of patterns, what sets variables, its tests of expressions, the calculation of its
+-- value, and the questions how long its content is and how often it occurs ('DFDL Schema Component Model', on asserts, discriminators and
+-- variables; 'Calculated Values'; 'Lengths'; 'Arrays and Optional Elements').
 use Rattle.std.specs.Prelude.{ℕ, ◌+◌, List, Bool, true, false, Option, None, Some, length, take}
 use Rattle.std.specs.List.{flat_map, sum_by}
 use Rattle.dfdl_documents.specs.Documents.{SchemaDocument}
@@ -16,18 +17,19 @@ use Rattle.dfdl_terms.specs.declared.statement.Statements.{Statements}
 use Rattle.dfdl_written.specs.declared.noted.Noted.{Noted}
 use Rattle.dfdl_written.specs.Noting.{noted_by}
 
--- how many calculations of its value an element has, one or none
-abbrev pub count_if : Option (List ℕ) → ℕ
+-- how many statements there are of something, one or none
+abbrev pub count_if : {X : Type 0} → Option X → ℕ
 count_if None = 0
-count_if (Some text) = 1
+count_if (Some given) = 1
 
--- how many statements before the calculation of its value an element has of which this is told
+-- how many statements before the expressions that are properties an element has of which this is told
 abbrev pub count_others : Judgement → ℕ
 count_others judgement = length judgement.tests + (length judgement.settings + length judgement.checks)
 
 -- how many statements it has
 abbrev pub count_by : Judgement → ℕ
-count_by judgement = count_others judgement + count_if judgement.calculation
+count_by judgement =
+    count_others judgement + (count_if judgement.calculation + (count_if judgement.measure + count_if judgement.count))
 
 -- how many the elements have of which these are told
 abbrev pub counted : List Judgement → ℕ
@@ -78,6 +80,14 @@ behind_by is_first first judgement = record {
 -- the number of the calculation of its value
 abbrev pub calculation_number : ℕ → Judgement → ℕ
 calculation_number first judgement = first + count_others judgement
+
+-- the number of the question how long its content is, which stands behind it
+abbrev pub measure_number : ℕ → Judgement → ℕ
+measure_number first judgement = calculation_number first judgement + count_if judgement.calculation
+
+-- the number of the question how often it occurs, which stands behind that
+abbrev pub count_number : ℕ → Judgement → ℕ
+count_number first judgement = measure_number first judgement + count_if judgement.measure
 
 -- the statements of an element of the documents as they are written
 abbrev pub noted_at : Purpose → (Site → Bool) → List SchemaDocument → Site → List Noted

@@ -13,17 +13,22 @@ ghost use Rattle.dfdl_compile.specs.Components as spec;
 ghost use Rattle.dfdl_rows.specs.declared.component.Component.TheVariants.{Sequence};
 ghost use Rattle.dfdl_compile.specs.Delimiters as delimiters;
 ghost use Rattle.dfdl_compile.specs.Primitives.{primitive_by};
+ghost use Rattle.dfdl_compile.specs.Statements as statements;
 
+use crate::measuring::{box_by, counted_by, leaf_length_by, measure_by, question_if};
 use crate::primitives::{is_scanned_by, type_by};
-use crate::stating::{before_by, behind_by, calculation_number, first_behind, is_set_first};
+use crate::stating::{
+    before_by, behind_by, calculation_number, count_number, first_behind, is_set_first,
+    measure_number,
+};
 use dfdl_breaches::Judgement;
 use dfdl_chains::{Numbers, declaration, kind_at};
 use dfdl_checks::{Breach, Delimiting, Kind, OtherRepresentations, Purpose};
 use dfdl_components::{Schema, Site};
 use dfdl_constructs::plain;
 use dfdl_forms::Simple;
-use dfdl_rows::{Component, ContentBox, Refusal, Separated};
-use dfdl_terms::{Delimiter, Framing, Prefix, Primitive, Representations, Statements};
+use dfdl_rows::{Component, Counted, Refusal, Separated};
+use dfdl_terms::{Delimiter, Framing, Measure, Prefix, Primitive, Representations, Statements};
 use dfdl_value::TextValue;
 use std::alloc::{AllocError, Global};
 
@@ -122,19 +127,6 @@ fn separated_by(number: u32, judgement: &Judgement) -> Option<Separated>
     }
 }
 
-// The box around the content of a complex element, of so many bits or with this prefix.
-fn box_by(size: Option<u64>, prefix: Option<Prefix>) -> ContentBox
-    ensures { result ≡ spec.box_by size prefix }
-{
-    if let Some(bits) = size {
-        return ContentBox::Sized(bits);
-    }
-    match prefix {
-        Some(prefix) => ContentBox::Prefixed(prefix),
-        None => ContentBox::Unbounded,
-    }
-}
-
 // What an element has that names things in the tables by their numbers.
 #[derive(Clone, Copy)]
 struct Numbered {
@@ -142,8 +134,10 @@ struct Numbered {
     prim: u32,
     framing: Framing,
     prefix: Option<Prefix>,
+    measure: Option<Measure>,
     tried: Representations,
     separated: Option<Separated>,
+    counted: Counted,
 }
 
 // A choice with this framing and these separators, whose content is initiated or isn't. For unparsing it is refused.
@@ -190,8 +184,8 @@ fn component_by(
     numbered: Numbered,
     kind: Kind,
 ) -> Component
-    ensures { result ≡ spec.component_by purpose name (primitive_by judgement.now) numbered.prim numbered.framing judgement.now.size numbered.prefix numbered.tried
-        numbered.separated judgement.now.initiates judgement.now.occurs judgement.now.is_parsed kind }
+    ensures { result ≡ spec.component_by purpose name (primitive_by judgement.now) numbered.prim numbered.framing judgement.now.size numbered.prefix numbered.measure numbered.tried
+        numbered.separated judgement.now.initiates judgement.now.occurs numbered.counted kind }
 {
     let simple = type_by(judgement);
     let is_scanned = is_scanned_by(judgement);
@@ -199,52 +193,54 @@ fn component_by(
         prim,
         framing,
         prefix,
+        measure,
         tried,
         separated,
+        counted,
     } = numbered;
     let initiated = judgement.initiates;
     let occurs = judgement.occurs;
-    let is_parsed = judgement.is_parsed;
+    let length = leaf_length_by(prefix, measure);
     match kind {
         Kind::ComplexElement => Component::ComplexElement {
             name,
             framing,
-            content_box: box_by(judgement.size, prefix),
+            content_box: box_by(judgement.size, prefix, measure),
             occurs,
-            is_parsed,
+            counted,
         },
         Kind::SimpleElement(_) => Component::SimpleElement {
             name,
             simple,
             prim,
             framing,
-            prefix,
+            length,
             tried,
             is_scanned,
             occurs,
-            is_parsed,
+            counted,
         },
         Kind::UncarriedElement => Component::SimpleElement {
             name,
             simple,
             prim,
             framing,
-            prefix,
+            length,
             tried,
             is_scanned,
             occurs,
-            is_parsed,
+            counted,
         },
         Kind::CalculatedElement(_) => Component::SimpleElement {
             name,
             simple,
             prim,
             framing,
-            prefix,
+            length,
             tried,
             is_scanned,
             occurs,
-            is_parsed,
+            counted,
         },
         Kind::Sequence | Kind::HiddenSequence => sequence_by(framing, separated, initiated),
         Kind::Choice => choice_by(purpose, framing, separated, initiated),
@@ -273,8 +269,8 @@ fn calculated_by(
     kind: Kind,
 ) -> Component
     ensures { result ≡ spec.calculated_by judgement.now.calculation name (unwrap_or (simple_of kind) UnsignedByte) statement numbered.framing
-        (spec.component_by purpose name (primitive_by judgement.now) numbered.prim numbered.framing judgement.now.size numbered.prefix numbered.tried
-        numbered.separated judgement.now.initiates judgement.now.occurs judgement.now.is_parsed kind) }
+        (spec.component_by purpose name (primitive_by judgement.now) numbered.prim numbered.framing judgement.now.size numbered.prefix numbered.measure numbered.tried
+        numbered.separated judgement.now.initiates judgement.now.occurs numbered.counted kind) }
 {
     match &judgement.calculation {
         Some(_) => Component::CalculatedElement {
@@ -333,10 +329,14 @@ fn by_numbers(
     ensures prim { IfOk result (λ found. found.prim ≡ number_of schema.now site) }
     ensures framing { IfOk result (λ found. found.framing ≡ spec.framing_of schema.now first site judgement.now) }
     ensures prefix { IfOk result (λ found. found.prefix ≡ option_map (spec.prefix_by (spec.prefix_number schema.now site)) judgement.now.prefix) }
+    ensures measure { IfOk result (λ found. found.measure
+        ≡ option_map (spec.measure_by (statements.measure_number first judgement.now)) judgement.now.measure) }
     ensures tried { IfOk result (λ found. found.tried
         ≡ spec.tried_by (spec.nil_number schema.now site) (spec.empty_number schema.now site) judgement.now.others) }
     ensures separated { IfOk result (λ found. found.separated
         ≡ option_map (delimiters.separated_by (spec.separator_number schema.now site)) judgement.now.markup.separator) }
+    ensures counted { IfOk result (λ found. found.counted
+        ≡ spec.counted_by judgement.now.is_parsed (spec.number_if (statements.count_number first judgement.now) judgement.now.count)) }
 {
     let prim = numbers.number(schema, site);
     let prefix = one_list_behind(schema, numbers, prim)?;
@@ -345,12 +345,17 @@ fn by_numbers(
     let framing = framing_of(schema, numbers, first, site, judgement)?;
     // Those of separators stand as far behind as those of nil representations.
     let separator = nil;
+    let measure = measure_number(first, judgement)?;
+    let count = count_number(first, judgement)?;
+    let count = question_if(count, &judgement.count);
     Ok(Numbered {
         prim,
         framing,
         prefix: prefix_by(prefix, judgement),
+        measure: measure_by(measure, &judgement.measure),
         tried: tried_by(nil, empty, &judgement.others),
         separated: separated_by(separator, judgement),
+        counted: counted_by(judgement.is_parsed, count),
     })
 }
 

@@ -8,6 +8,7 @@
 mod compiling;
 mod fault;
 mod gathering;
+mod measuring;
 mod parts;
 mod primitives;
 mod settling;

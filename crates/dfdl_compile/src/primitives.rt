@@ -212,6 +212,8 @@ fn lists_of(alloc: Global, judgements: Vec<Judgement>) -> Result<Lists, AllocErr
             settings,
             checks,
             calculation,
+            measure,
+            count,
             ..
         } = judgement;
         lists.own.push(primitive_or_byte(primitive))?;
@@ -228,6 +230,8 @@ fn lists_of(alloc: Global, judgements: Vec<Judgement>) -> Result<Lists, AllocErr
             settings,
             checks,
             calculation,
+            measure,
+            count,
         })?;
     }
     Ok(lists)

@@ -3,7 +3,7 @@ ghost use Rattle.std.specs.Prelude.{◌≡◌, ◌+◌, length, IfOk};
 ghost use Rattle.dfdl_compile.specs.Statements as spec;
 
 use dfdl_breaches::Judgement;
-use dfdl_checks::Kind;
+use dfdl_checks::{Kind, MeasureForm};
 use dfdl_terms::Statements;
 use dfdl_value::TextValue;
 use std::alloc::AllocError;
@@ -107,7 +107,7 @@ pub(crate) fn behind_by(
     Ok(Statements { first, count })
 }
 
-// How many statements before the calculation of its value an element has of which this is told.
+// How many statements before the expressions that are properties an element has of which this is told.
 fn count_others(judgement: &Judgement) -> Result<u32, AllocError>
     ensures { IfOk result (λ count. count ≡ spec.count_others judgement.now) }
 {
@@ -116,11 +116,21 @@ fn count_others(judgement: &Judgement) -> Result<u32, AllocError>
     sum(counts.tests, others)
 }
 
-// How many calculations of its value an element has.
-fn count_if(calculation: &Option<TextValue>) -> u32
-    ensures { result ≡ spec.count_if calculation.now }
+// How many statements there are of an expression.
+fn count_if(text: &Option<TextValue>) -> u32
+    ensures { result ≡ spec.count_if text.now }
 {
-    match calculation {
+    match text {
+        Some(_) => 1,
+        None => 0,
+    }
+}
+
+// How many there are of a length by an expression.
+fn count_measure(measure: &Option<MeasureForm>) -> u32
+    ensures { result ≡ spec.count_if measure.now }
+{
+    match measure {
         Some(_) => 1,
         None => 0,
     }
@@ -134,11 +144,26 @@ pub(crate) fn calculation_number(first: u32, judgement: &Judgement) -> Result<u3
     sum(first, others)
 }
 
+/// The number of the question how long the content of such an element is.
+pub(crate) fn measure_number(first: u32, judgement: &Judgement) -> Result<u32, AllocError>
+    ensures { IfOk result (λ number. number ≡ spec.measure_number first judgement.now) }
+{
+    let calculation = calculation_number(first, judgement)?;
+    sum(calculation, count_if(&judgement.calculation))
+}
+
+/// The number of the question how often such an element occurs.
+pub(crate) fn count_number(first: u32, judgement: &Judgement) -> Result<u32, AllocError>
+    ensures { IfOk result (λ number. number ≡ spec.count_number first judgement.now) }
+{
+    let measure = measure_number(first, judgement)?;
+    sum(measure, count_measure(&judgement.measure))
+}
+
 /// The number of the first statement behind those of an element of which this is told, where its first has this number.
 pub(crate) fn first_behind(first: u32, judgement: &Judgement) -> Result<u32, AllocError>
     ensures { IfOk result (λ behind. behind ≡ first + spec.count_by judgement.now) }
 {
-    let others = count_others(judgement)?;
-    let all = sum(others, count_if(&judgement.calculation))?;
-    sum(first, all)
+    let count = count_number(first, judgement)?;
+    sum(count, count_if(&judgement.count))
 }

@@ -16,7 +16,7 @@ use Rattle.dfdl_rows.specs.declared.slots.Grouping.{Grouping}
 use Rattle.dfdl_rows.specs.declared.slots.Grouping.TheVariants as grouping
 use Rattle.dfdl_rows.specs.declared.times.Times.{Times}
 use Rattle.dfdl_rows.proofs.Nests.{NestsFrom, nests_none, nests_cons, nests_append}
-use Rattle.dfdl_rows.proofs.Slotted.{IsSingle, laid_all, laid_nests, length_laid, never, none_laid}
+use Rattle.dfdl_rows.proofs.Slotted.{HoldsCounted, IsSingle, laid_all, laid_nests, length_laid, never, none_laid}
 
 -- a sequence that is one row of slots, and any other group
 pub grouped_cases : (kind : Grouping) (initiated : Bool) (separated : Option Separated) (slots : List Times) (parts : List ℕ) (first : ℕ) (P : List Row → ℕ → Type 0)
@@ -56,13 +56,13 @@ module _ (P : Row → Type 0) (group : (children : List ℕ) → P (Group childr
 
   pub grouped_all : P Separator → ((count body : ℕ) → P (Repeat count body)) → ((most : ℕ) (item initiated : Bool) (body : ℕ) → P (Optional most item initiated body))
       → ((policy : SeparatorSuppressionPolicy) (position : SeparatorPosition) (initiated : Bool) (own : List Slot) → P (SeparatedRow policy position initiated own))
-      → (kind : Grouping) (initiated : Bool) (separated : Option Separated) (slots : List Times) (parts : List ℕ) (first : ℕ)
+      → (kind : Grouping) (initiated : Bool) (separated : Option Separated) (slots : List Times) → All (HoldsCounted P) slots → (parts : List ℕ) (first : ℕ)
       → All P (grouped kind initiated separated slots parts first)
-  grouped_all own repeat optional one kind initiated separated slots parts first =
+  grouped_all own repeat optional one kind initiated separated slots counted parts first =
       let laid : List Row = (laid_of initiated separated slots parts first).rows in
       let children : List ℕ = (laid_of initiated separated slots parts first).children in
       grouped_cases kind initiated separated slots parts first (λ rows size. All P rows)
-      (All-append P laid (row_of kind initiated children ∷ []) (laid_all P own group repeat optional initiated separated slots parts first)
+      (All-append P laid (row_of kind initiated children ∷ []) (laid_all P own group repeat optional initiated separated slots counted parts first)
       (All-cons P (row_of kind initiated children) [] (row_holds kind initiated children) (All-nil P)))
       (λ apart. All-cons P (apart_row initiated slots parts apart) [] (one apart.policy apart.position initiated (slots_from parts slots 0)) (All-nil P))
 

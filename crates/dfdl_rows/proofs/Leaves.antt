@@ -6,15 +6,17 @@ use Rattle.std.proofs.lemmas.Option.{slice_get_within, slice_get-get_or, get_or_
 use Rattle.dfdl_forms.specs.declared.simple.Simple.{Simple}
 use Rattle.dfdl_order.specs.Parts.{uses_of}
 use Rattle.dfdl_terms.specs.declared.representations.Representations.{Representations}
-use Rattle.dfdl_terms.specs.Leaves.{ReadsBy, leaf, prefixed, calculated, scoped as scope}
+use Rattle.dfdl_terms.specs.Leaves.{ReadsBy, leaf, prefixed, measured, calculated, scoped as scope}
 use Rattle.dfdl_terms.specs.declared.framing.Framing.{Framing}
 use Rattle.dfdl_terms.specs.declared.occurs.Occurs.{Occurs}
-use Rattle.dfdl_terms.specs.declared.prefix.Prefix.{Prefix}
 use Rattle.dfdl_terms.specs.declared.row.Row.{Row}
 use Rattle.dfdl_terms.specs.declared.row.Row.TheVariants.{Elem, Scope, Statement, Concluded, Hidden as HiddenRow}
 use Rattle.dfdl_terms.specs.declared.statement.Statements.{Statements}
 use Rattle.dfdl_terms.specs.Framing.{no_fill}
 use Rattle.dfdl_rows.specs.Components.{Schema, component_at, no_trials, slots_at, AreOfOne, HasOrder, IsBareComponent}
+use Rattle.dfdl_rows.specs.declared.component.Counted.{Counted}
+use Rattle.dfdl_rows.specs.declared.component.LeafLength.{LeafLength}
+use Rattle.dfdl_rows.specs.declared.component.LeafLength.TheVariants as leaf_length
 use Rattle.dfdl_rows.specs.declared.component.Component.{Component}
 use Rattle.dfdl_rows.specs.declared.component.Component.TheVariants.{Sequence, Choice, ComplexElement, SimpleElement, CalculatedElement, Hidden}
 use Rattle.dfdl_rows.specs.Framing.{framed, framed_row}
@@ -71,14 +73,17 @@ sequence_not_simple f separators =
     scoped_not_simple separators (scoped (list_of f.terminator) (framed f separators))
     (scoped_not_simple (list_of f.terminator) (framed f separators) (framed_not_simple f separators))
 
-leaf_not_simple : (prefix : Option Prefix) (prim : ℕ) → IsNotSimple (leaf_row prefix prim)
-leaf_not_simple prefix prim = leaf_holds IsNotSimple prefix prim (λ name simple tried behind body is. absurd (cc)) (λ own has name simple tried behind body is. absurd (cc))
+leaf_not_simple : (own_length : LeafLength) (prim : ℕ) → IsNotSimple (leaf_row own_length prim)
+leaf_not_simple own_length prim =
+    leaf_holds IsNotSimple own_length prim (λ name simple tried behind body is. absurd (cc)) (λ prefix has name simple tried behind body is. absurd (cc))
+    (λ measure has name simple tried behind body is. absurd (cc))
 
--- a leaf reads by its primitive, with a prefix and without
-leaf_reads : (rows : List Row) (IsOne IsCalculation : ℕ → Type 0) (id prim : ℕ) (prefix : Option Prefix) → slice_get rows id ≡ Some (leaf_row prefix prim)
+-- a leaf reads by its primitive, whatever gives its length
+leaf_reads : (rows : List Row) (IsOne IsCalculation : ℕ → Type 0) (id prim : ℕ) (own_length : LeafLength) → slice_get rows id ≡ Some (leaf_row own_length prim)
     → IsOne prim → ReadsBy rows IsOne IsCalculation id
-leaf_reads rows IsOne IsCalculation id prim None is one = leaf id prim is one
-leaf_reads rows IsOne IsCalculation id prim (Some prefix) is one = prefixed id prim prefix is one
+leaf_reads rows IsOne IsCalculation id prim leaf_length.Own is one = leaf id prim is one
+leaf_reads rows IsOne IsCalculation id prim (leaf_length.Prefixed prefix) is one = prefixed id prim prefix is one
+leaf_reads rows IsOne IsCalculation id prim (leaf_length.Measured measure) is one = measured id prim measure is one
 
 -- the rows around the content of a simple element that stand before its own: that of its scope, and those that frame it
 abbrev pub scoped_frame : Bool → Framing → ℕ → List Row
@@ -100,8 +105,8 @@ scoped_reads rows IsOne IsCalculation f (Some list) content first sits reads =
 
 -- among all rows, this holds of the body of a simple element of the components
 module _ (components : List Component) (all : List Row) (Q : Simple → ℕ → Type 0)
-    (holds : (number content prim : ℕ) (name : List ℕ) (simple : Simple) (f : Framing) (prefix : Option Prefix) (tried : Representations) (scanned : Bool) (occurs : Occurs) (parsed : Bool)
-    → slice_get components number ≡ Some (SimpleElement name simple prim f prefix tried scanned occurs parsed) → slice_get all content ≡ Some (leaf_row prefix prim)
+    (holds : (number content prim : ℕ) (name : List ℕ) (simple : Simple) (f : Framing) (own_length : LeafLength) (tried : Representations) (scanned : Bool) (occurs : Occurs) (often : Counted)
+    → slice_get components number ≡ Some (SimpleElement name simple prim f own_length tried scanned occurs often) → slice_get all content ≡ Some (leaf_row own_length prim)
     → Sits all (content + 1) (scoped_frame scanned f content) → Q simple (scoped_whole scanned f content))
     (calculates : (number content statement : ℕ) (name : List ℕ) (simple : Simple) (f : Framing)
     → slice_get components number ≡ Some (CalculatedElement name simple statement f) → slice_get all content ≡ Some (Statement statement)
@@ -144,7 +149,7 @@ module _ (components : List Component) (all : List Row) (Q : Simple → ℕ → 
       (grouped_all IsNotSimple (λ children name simple tried behind body is. absurd (cc)) (λ branches told name simple tried behind body is. absurd (cc))
       (λ name simple tried behind body is. absurd (cc)) (λ count body name simple tried behind other is. absurd (cc))
       (λ most item told body name simple tried behind other is. absurd (cc)) (λ policy position told all name simple tried behind other is. absurd (cc))
-      kind initiated separated slots lasts first)
+      kind initiated separated slots (λ k n less question body has name simple tried behind other is. absurd (cc)) lasts first)
       (sequence_not_simple f (separator_list separated) (first + size) (first + size + 1)))
       (λ row some name simple tried behind body is. absurd (cc)))
 
@@ -152,34 +157,35 @@ module _ (components : List Component) (all : List Row) (Q : Simple → ℕ → 
       → BodiesFrom first (own_rows component slots lasts first)
   own_bodies (Sequence f separated initiated) slots lasts first number there = group_bodies grouping.Sequence f separated initiated slots lasts first
   own_bodies (Choice f initiated) slots lasts first number there = group_bodies grouping.Choice f None initiated slots lasts first
-  own_bodies (ComplexElement own f box occurs parsed) slots lasts first number there =
+  own_bodies (ComplexElement own f box occurs often) slots lasts first number there =
       bodies_none first (scoped (list_of f.terminator) (boxed_rows own f box) (get_or lasts 0 0) first)
       (scoped_not_simple (list_of f.terminator) (boxed_rows own f box)
       (boxed_all IsNotSimple own f box (λ bits row name simple tried behind body is. absurd (cc)) (λ prefix row there name simple tried behind body is. absurd (cc))
+      (λ measure row there name simple tried behind body is. absurd (cc))
       (framed_not_simple f None) (λ row name simple tried behind body is. absurd (cc)))
       (get_or lasts 0 0) first)
-  own_bodies (SimpleElement own kind prim f prefix trials scanned occurs parsed) slots lasts first number there = λ sits i name simple tried behind body is.
+  own_bodies (SimpleElement own kind prim f own_length trials scanned occurs often) slots lasts first number there = λ sits i name simple tried behind body is.
       let list : Option ℕ = scanned_list scanned f.terminator in
       let whole : ℕ = scoped_whole scanned f first in
       let last : Row = Elem own (Some kind) trials f.behind (scoped_whole scanned f first) in
-      let rows : List Row = leaf_row prefix prim ∷ scoped_frame scanned f first in
-      let regrouped : leaf_row prefix prim ∷ scoped list (element_rows own (Some kind) trials f) first (first + 1) ≡ rows ++ last ∷ []
-      = ap (λ (others : List Row). leaf_row prefix prim ∷ others)
+      let rows : List Row = leaf_row own_length prim ∷ scoped_frame scanned f first in
+      let regrouped : leaf_row own_length prim ∷ scoped list (element_rows own (Some kind) trials f) first (first + 1) ≡ rows ++ last ∷ []
+      = ap (λ (others : List Row). leaf_row own_length prim ∷ others)
       (sym (append_assoc (scope_rows list first) (framed f None (scoped_row list first (first + 1)) (first + 1 + scope_size list)) (last ∷ []))) in
       let there_is : slice_get (rows ++ last ∷ []) i ≡ Some (Elem name (Some simple) tried behind body)
       = ap (λ (others : List Row). slice_get others i) (sym regrouped) ∙ is in
       let all_sit : Sits all first (rows ++ last ∷ []) = subst (Sits all first) regrouped sits in
       let same : last ≡ Elem name (Some simple) tried behind body
       = only_last rows last i name simple tried behind body
-      (All-cons IsNotSimple (leaf_row prefix prim) (scoped_frame scanned f first) (leaf_not_simple prefix prim)
+      (All-cons IsNotSimple (leaf_row own_length prim) (scoped_frame scanned f first) (leaf_not_simple own_length prim)
       (scoped_not_simple list (framed f None) (framed_not_simple f None) first (first + 1))) there_is in
       let kinds : kind ≡ simple = cc in
       let bodies : scoped_whole scanned f first ≡ body = cc in
       let frame : Sits all (first + 1) (scoped_frame scanned f first)
-      = sits_left all (first + 1) (scoped_frame scanned f first) (last ∷ []) (sits_tail all first (leaf_row prefix prim) (scoped_frame scanned f first ++ last ∷ []) all_sit) in
+      = sits_left all (first + 1) (scoped_frame scanned f first) (last ∷ []) (sits_tail all first (leaf_row own_length prim) (scoped_frame scanned f first ++ last ∷ []) all_sit) in
       subst (λ (k : Simple). Q k body) kinds (subst (λ (n : ℕ). Q kind n) bodies
-      (holds number first prim own kind f prefix trials scanned occurs parsed there
-      (sits_first all first (leaf_row prefix prim) (scoped_frame scanned f first ++ last ∷ []) all_sit) frame))
+      (holds number first prim own kind f own_length trials scanned occurs often there
+      (sits_first all first (leaf_row own_length prim) (scoped_frame scanned f first ++ last ∷ []) all_sit) frame))
   own_bodies (CalculatedElement own kind statement f) slots lasts first number there = λ sits i name simple tried behind body is.
       let frame : List Row = framed f None first (first + 1) in
       let last : Row = Elem own (Some kind) no_trials f.behind (framed_row f None first (first + 1)) in
@@ -203,8 +209,8 @@ module _ (s : Schema) (ordered : HasOrder s.uses) (one : AreOfOne s.uses s.compo
   there c within = slice_get-get_or s.components c (Sequence no_fill None false) (omega (arith, within, one.counted))
 
   bodies_at : (all : List Row) (Q : Simple → ℕ → Type 0)
-      → ((number content prim : ℕ) (name : List ℕ) (simple : Simple) (f : Framing) (prefix : Option Prefix) (tried : Representations) (scanned : Bool) (occurs : Occurs) (parsed : Bool)
-      → slice_get s.components number ≡ Some (SimpleElement name simple prim f prefix tried scanned occurs parsed) → slice_get all content ≡ Some (leaf_row prefix prim)
+      → ((number content prim : ℕ) (name : List ℕ) (simple : Simple) (f : Framing) (own_length : LeafLength) (tried : Representations) (scanned : Bool) (occurs : Occurs) (often : Counted)
+      → slice_get s.components number ≡ Some (SimpleElement name simple prim f own_length tried scanned occurs often) → slice_get all content ≡ Some (leaf_row own_length prim)
       → Sits all (content + 1) (scoped_frame scanned f content) → Q simple (scoped_whole scanned f content))
       → ((number content statement : ℕ) (name : List ℕ) (simple : Simple) (f : Framing)
       → slice_get s.components number ≡ Some (CalculatedElement name simple statement f) → slice_get all content ≡ Some (Statement statement)
@@ -229,16 +235,16 @@ module _ (s : Schema) (ordered : HasOrder s.uses) (one : AreOfOne s.uses s.compo
   pub rows_have_leaves : (root : ℕ) → root < length s.uses → HaveLeaves s.components (rows_of s root)
   rows_have_leaves root within =
       bodies_at (rows_of s root) (λ simple body. ReadsBy (rows_of s root) (IsAmong s.components simple) (IsCalculated s.components simple) body)
-      (λ number content prim name simple f prefix tried scanned occurs parsed component is sits.
+      (λ number content prim name simple f own_length tried scanned occurs often component is sits.
       scoped_reads (rows_of s root) (IsAmong s.components simple) (IsCalculated s.components simple) f (scanned_list scanned f.terminator) content (content + 1) sits
-      (leaf_reads (rows_of s root) (IsAmong s.components simple) (IsCalculated s.components simple) content prim prefix is
-      (number, name, f, prefix, tried, scanned, occurs, parsed, component)))
+      (leaf_reads (rows_of s root) (IsAmong s.components simple) (IsCalculated s.components simple) content prim own_length is
+      (number, name, f, own_length, tried, scanned, occurs, often, component)))
       (λ number content statement name simple f component is sits.
       framed_reads (rows_of s root) (IsAmong s.components simple) (IsCalculated s.components simple) f None content (content + 1) sits
       (calculated content statement is (number, name, f, component)))
       root within 0 (root_sits (rows_of s root))
 
-  -- where there is neither a statement nor fill nor a delimiter nor a box nor a prefix, the component of a number has none
+  -- where there is neither a statement nor fill nor a delimiter nor a box nor a prefix nor a question, the component of a number has none
   bare_at : All IsBareComponent s.components → (number : ℕ) (component : Component) → slice_get s.components number ≡ Some component → IsBareComponent component
   bare_at bare number component is =
       subst IsBareComponent (get_or_from_slice_get s.components number component component is)
@@ -247,14 +253,14 @@ module _ (s : Schema) (ordered : HasOrder s.uses) (one : AreOfOne s.uses s.compo
   pub rows_have_bare_leaves : All IsBareComponent s.components → (root : ℕ) → root < length s.uses → HaveBareLeaves s.components (rows_of s root)
   rows_have_bare_leaves bare root within =
       bodies_at (rows_of s root) (λ simple body. IsLeafOf s.components simple (slice_get (rows_of s root) body))
-      (λ number content prim name simple f prefix tried scanned occurs parsed component is sits.
-      let own = bare_at bare number (SimpleElement name simple prim f prefix tried scanned occurs parsed) component in
+      (λ number content prim name simple f own_length tried scanned occurs often component is sits.
+      let own = bare_at bare number (SimpleElement name simple prim f own_length tried scanned occurs often) component in
       let content_is : scoped_whole scanned f content ≡ content
       = ap (λ (list : Option ℕ). framed_row f None (scoped_row list content (content + 1)) (content + 1 + scope_size list)) (none_scanned scanned f own.unframed)
       ∙ unframed_row f None content (content + 1 + 0) own.unframed in
-      let leaf_is : leaf_row prefix prim ≡ leaf_row None prim = ap (λ (own : Option Prefix). leaf_row own prim) own.unprefixed in
+      let leaf_is : leaf_row own_length prim ≡ leaf_row leaf_length.Own prim = ap (λ (way : LeafLength). leaf_row way prim) own.unmeasured in
       subst (λ (n : ℕ). IsLeafOf s.components simple (slice_get (rows_of s root) n)) (sym content_is)
-      (subst (IsLeafOf s.components simple) (sym (is ∙ ap (λ (row : Row). Some row) leaf_is)) (number, name, f, prefix, tried, scanned, occurs, parsed, component)))
+      (subst (IsLeafOf s.components simple) (sym (is ∙ ap (λ (row : Row). Some row) leaf_is)) (number, name, f, own_length, tried, scanned, occurs, often, component)))
       (λ number content statement name simple f component is sits.
       let own = bare_at bare number (CalculatedElement name simple statement f) component in
       absurd (let none = own.uncalculated in cc))

@@ -61,8 +61,8 @@ module _ (s : Schema) (order : Places) (is : IsOrder s.uses order) where
   idle_at None (Sequence framing separated initiated) place parts b names are order_is branches_are = order_is are
   idle_at None (Choice framing initiated) place parts b names are order_is branches_are = branches_are are
   idle_at None Hidden place parts b names are order_is branches_are = order_is are
-  idle_at None (ComplexElement name framing box occurs parsed) place parts b names are order_is branches_are = absurd (cc)
-  idle_at None (SimpleElement name simple prim framing prefix tried scanned occurs parsed) place parts b names are order_is branches_are = absurd (cc)
+  idle_at None (ComplexElement name framing box occurs often) place parts b names are order_is branches_are = absurd (cc)
+  idle_at None (SimpleElement name simple prim framing own_length tried scanned occurs often) place parts b names are order_is branches_are = absurd (cc)
   idle_at None (CalculatedElement name simple statement framing) place parts b names are order_is branches_are = absurd (cc)
   idle_at (Some refusal) component place parts b names are order_is branches_are = absurd (cc)
 

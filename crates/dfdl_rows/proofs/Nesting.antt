@@ -1,5 +1,5 @@
--- The rows of a component nest, name what is there, are plain where there is neither fill nor a delimiter nor a box nor a prefix, and end
--- with the component's own.
+-- The rows of a component nest, name what is there, are plain where there is neither fill nor a delimiter nor a box nor a prefix nor a question, and
+-- end with the component's own.
 use Rattle.std.proofs.Common.{◌≡◌, ℕ, zero, suc, ◌+◌, ◌-◌, ◌<◌, ◌≤◌, Bool, true, false, if◌then◌else◌, List, [], ◌∷◌, ◌++◌, length, map, get_or, slice_get, All, Option, None, Some, sym, ap, subst, ◌∙◌, refl, arith, append_assoc, length-append}
 use Rattle.std.proofs.lemmas.List.{length-map}
 use Rattle.std.proofs.lemmas.List.Elements.{All-nil, All-tail, All-cons, All-append, All-get_or}
@@ -8,12 +8,13 @@ use Rattle.dfdl_order.specs.Parts.{uses_of}
 use Rattle.dfdl_terms.specs.declared.representations.Representations.{Representations}
 use Rattle.dfdl_terms.specs.Tables.{Named}
 use Rattle.dfdl_terms.specs.declared.framing.Framing.{Framing}
+use Rattle.dfdl_terms.specs.declared.occurs.Occurs.{Occurs}
 use Rattle.dfdl_terms.specs.declared.row.Row.{Row}
-use Rattle.dfdl_terms.specs.declared.row.Row.TheVariants.{Elem, Group, Scope, Boxed, PrefixedBox, Statement, Hidden as HiddenRow}
+use Rattle.dfdl_terms.specs.declared.row.Row.TheVariants.{Elem, Group, Scope, Boxed, PrefixedBox, MeasuredBox, Statement, Hidden as HiddenRow}
 use Rattle.dfdl_terms.specs.declared.statement.Statements.{Statements}
 use Rattle.dfdl_terms.specs.Rows.{ChildrenBelow, Nests, NamesWithin, IsPlainRow, IsWithin, AreStatements, HasPlainRows}
 use Rattle.dfdl_terms.specs.Framing.{no_fill}
-use Rattle.dfdl_rows.specs.Components.{Schema, component_at, slots_at, CanHave, AreOfOne, HasOrder, HasPrimitive, HasBoxPrimitive, HasPrefixPrimitive, HasList, HasSeparators, HasDelimiters, HasStatements, IsBareComponent, no_trials, occurs_in}
+use Rattle.dfdl_rows.specs.Components.{Schema, component_at, slots_at, CanHave, AreOfOne, HasOrder, HasPrimitive, HasBoxPrimitive, HasBoxQuestion, HasPrefixPrimitive, HasLeafQuestion, HasList, HasSeparators, HasDelimiters, HasStatements, IsBareComponent, no_trials, occurs_in, question_in}
 use Rattle.dfdl_rows.specs.Slots.{grouped, laid_of, separator_list, slots_of, slots_of_group, slots_size}
 use Rattle.dfdl_rows.specs.declared.slots.Grouping.{Grouping}
 use Rattle.dfdl_rows.specs.declared.slots.Grouping.TheVariants as grouping
@@ -22,8 +23,11 @@ use Rattle.dfdl_rows.specs.declared.times.Times.{Times}
 use Rattle.dfdl_rows.specs.declared.component.Component.{Component}
 use Rattle.dfdl_rows.specs.declared.component.Component.TheVariants.{Sequence, Choice, ComplexElement, SimpleElement, CalculatedElement, Hidden}
 use Rattle.dfdl_rows.specs.declared.component.ContentBox.{ContentBox}
-use Rattle.dfdl_rows.specs.declared.component.ContentBox.TheVariants.{Unbounded, Sized, Prefixed}
+use Rattle.dfdl_rows.specs.declared.component.ContentBox.TheVariants.{Unbounded, Sized, Prefixed, Measured}
+use Rattle.dfdl_rows.specs.declared.component.Counted.{Counted}
+use Rattle.dfdl_rows.specs.declared.component.Counted.TheVariants.{ByBounds, Parsed, Told}
 use Rattle.dfdl_rows.specs.Boxes.{box_rows, boxed_row, box_size}
+use Rattle.dfdl_rows.specs.Times.{question_of, times_of}
 use Rattle.dfdl_rows.specs.RowLists.{Numbered, leaf_row, element_rows, boxed_rows, scoped, sequence_rows, around_rows, group_rows, own_rows, in_turn, last_rows, rows_at, rows_of}
 use Rattle.dfdl_rows.specs.Answers.{EndsWith}
 use Rattle.dfdl_rows.specs.Scopes.{list_of, scanned_list, scope_rows, scoped_row, scope_size}
@@ -32,7 +36,7 @@ use Rattle.dfdl_rows.proofs.Framed.{framed_cases, unframed, length_framed, frame
 use Rattle.dfdl_rows.proofs.Boxed.{length_box, box_end, box_below, leaf_holds, element_all, boxed_all}
 use Rattle.dfdl_rows.proofs.Scoped.{length_scope, scope_end, scope_below, scoped_all, no_terminator, none_scanned, listed, scanned_holds}
 use Rattle.dfdl_rows.proofs.Nests.{NestsFrom, nests_none, nests_cons, nests_append}
-use Rattle.dfdl_rows.proofs.Slotted.{IsSingle}
+use Rattle.dfdl_rows.proofs.Slotted.{HoldsCounted, IsSingle}
 use Rattle.dfdl_rows.proofs.Grouped.{grouped_all, grouped_nests, length_grouped, none_grouped}
 use Rattle.dfdl_rows.proofs.Parts.{by_parts, parts_within}
 use Rattle.dfdl_rows.proofs.Concluded.{concluded_all, concluded_nests, unconcluded}
@@ -106,6 +110,7 @@ nests_box : (box : ContentBox) (content first : ℕ) → content < first → Nes
 nests_box Unbounded content first low = nests_none first
 nests_box (Sized bits) content first low = nests_cons first (Boxed bits content) [] low (nests_none (first + 1))
 nests_box (Prefixed prefix) content first low = nests_cons first (PrefixedBox prefix content) [] low (nests_none (first + 1))
+nests_box (Measured measure) content first low = nests_cons first (MeasuredBox measure content) [] low (nests_none (first + 1))
 
 nests_boxed : (name : List ℕ) (f : Framing) (box : ContentBox) (content first : ℕ) → content < first → NestsFrom first (boxed_rows name f box content first)
 nests_boxed name f box content first low =
@@ -149,12 +154,12 @@ own_nest : (component : Component) (slots : List Times) (ps lasts : List ℕ) (f
     → All (λ n. n < first) lasts → NestsFrom first (own_rows component slots lasts first)
 own_nest (Sequence f separated initiated) slots ps lasts first can long many below = nests_slots grouping.Sequence f separated initiated slots lasts first (omega (arith, long, many)) below
 own_nest (Choice f initiated) slots ps lasts first can long many below = nests_slots grouping.Choice f None initiated slots lasts first (omega (arith, long, many)) below
-own_nest (ComplexElement name f box occurs parsed) slots ps lasts first can long many below =
+own_nest (ComplexElement name f box occurs often) slots ps lasts first can long many below =
     nests_scoped (list_of f.terminator) (boxed_rows name f box) (nests_boxed name f box) (get_or lasts 0 0) first (below 0 0 (omega (arith, can, long)))
-own_nest (SimpleElement name simple prim f prefix tried scanned occurs parsed) slots ps lasts first can long many below =
+own_nest (SimpleElement name simple prim f own_length tried scanned occurs often) slots ps lasts first can long many below =
     let list : Option ℕ = scanned_list scanned f.terminator in
-    nests_cons first (leaf_row prefix prim) (scoped list (element_rows name (Some simple) tried f) first (first + 1))
-    (leaf_holds (ChildrenBelow first) prefix prim tt (λ own is. tt))
+    nests_cons first (leaf_row own_length prim) (scoped list (element_rows name (Some simple) tried f) first (first + 1))
+    (leaf_holds (ChildrenBelow first) own_length prim tt (λ prefix is. tt) (λ measure is. tt))
     (nests_scoped list (element_rows name (Some simple) tried f) (λ content from low. nests_element f content from low name (Some simple) tried)
     first (first + 1) (omega arith))
 own_nest (CalculatedElement name simple statement f) slots ps lasts first can long many below =
@@ -236,47 +241,56 @@ separators_within : (count : ℕ) (separated : Option Separated) → HasSeparato
 separators_within count None has = tt
 separators_within count (Some own) has = has
 
+-- the question that tells how often a part occurs, where one does, is one of so many statements
+abbrev pub IsAsked : ℕ → Times → Type 0
+IsAsked count n = IsWithin count n.question
+
+counted_named : (named : Named) (n : Times) → IsAsked (length named.statements) n → HoldsCounted (NamesWithin named) n
+counted_named named n within question body is = subst (IsWithin (length named.statements)) is within
+
 -- the rows of a sequence or choice of its own
 group_named : (named : Named) (kind : Grouping) (f : Framing) (separated : Option Separated) (initiated : Bool) (slots : List Times) (lasts : List ℕ) (first : ℕ)
-    → HasList (length named.delimiters) f.initiator → HasList (length named.delimiters) f.terminator → HasSeparators (length named.delimiters) separated
+    → All (IsAsked (length named.statements)) slots → HasList (length named.delimiters) f.initiator → HasList (length named.delimiters) f.terminator → HasSeparators (length named.delimiters) separated
     → AreStatements (length named.statements) f.before → AreStatements (length named.statements) f.behind
     → All (NamesWithin named) (group_rows kind f separated initiated slots lasts first)
-group_named named kind f separated initiated slots lasts first initiator terminator separators before behind =
+group_named named kind f separated initiated slots lasts first asked initiator terminator separators before behind =
     let size : ℕ = slots_size separated slots in
     let within : IsWithin (length named.delimiters) (separator_list separated) = separators_within (length named.delimiters) separated separators in
     concluded_all (NamesWithin named) f.behind (around_rows kind f separated initiated slots lasts first) first
     (All-append (NamesWithin named) (grouped kind initiated separated slots lasts first) (sequence_rows f (separator_list separated) (first + size) (first + size + 1))
     (grouped_all (NamesWithin named) (λ children. tt) (λ branches own. tt) tt (λ count body. tt) (λ most item own body. tt) (λ policy position own all. tt)
-    kind initiated separated slots lasts first)
+    kind initiated separated slots (λ k n less. counted_named named (get_or slots k n) (asked k n less)) lasts first)
     (sequence_named named f (separator_list separated) (initiator, terminator) within before (first + size) (first + size + 1)))
     (λ body some. behind)
 
-own_named : (named : Named) (component : Component) (slots : List Times) (lasts : List ℕ) (first : ℕ) → HasPrimitive (length named.primitives) component
+own_named : (named : Named) (component : Component) (slots : List Times) (lasts : List ℕ) (first : ℕ) → All (IsAsked (length named.statements)) slots → HasPrimitive (length named.primitives) component
     → HasDelimiters (length named.delimiters) component → HasStatements (length named.statements) component → All (NamesWithin named) (own_rows component slots lasts first)
-own_named named (Sequence f separated initiated) slots lasts first has lists statements =
-    group_named named grouping.Sequence f separated initiated slots lasts first lists.0 lists.1 lists.2 statements.0 statements.1
-own_named named (Choice f initiated) slots lasts first has lists statements =
-    group_named named grouping.Choice f None initiated slots lasts first lists.0 lists.1 tt statements.0 statements.1
-own_named named (ComplexElement name f box occurs parsed) slots lasts first has lists statements =
+own_named named (Sequence f separated initiated) slots lasts first asked has lists statements =
+    group_named named grouping.Sequence f separated initiated slots lasts first asked lists.0 lists.1 lists.2 statements.0 statements.1
+own_named named (Choice f initiated) slots lasts first asked has lists statements =
+    group_named named grouping.Choice f None initiated slots lasts first asked lists.0 lists.1 tt statements.0 statements.1
+own_named named (ComplexElement name f box occurs often) slots lasts first asked has lists statements =
     scoped_named named f None (lists.0, lists.1) tt statements.0 (boxed_rows name f box)
     (boxed_all (NamesWithin named) name f box (λ bits body. tt) (λ own body is. subst (HasBoxPrimitive (length named.primitives)) is has)
+    (λ measure body is. subst (HasBoxQuestion (length named.statements)) is statements.3.0)
     (framed_named named f None (lists.0, lists.1) tt statements.0) (λ body. ((tt, tt), statements.1)))
     (get_or lasts 0 0) first
-own_named named (SimpleElement name simple prim f prefix tried scanned occurs parsed) slots lasts first has lists statements =
+own_named named (SimpleElement name simple prim f own_length tried scanned occurs often) slots lasts first asked has lists statements =
     let list : Option ℕ = scanned_list scanned f.terminator in
-    All-cons (NamesWithin named) (leaf_row prefix prim) (scoped list (element_rows name (Some simple) tried f) first (first + 1))
-    (leaf_holds (NamesWithin named) prefix prim has.0 (λ own is. (subst (HasPrefixPrimitive (length named.primitives)) is has.1, has.0)))
+    All-cons (NamesWithin named) (leaf_row own_length prim) (scoped list (element_rows name (Some simple) tried f) first (first + 1))
+    (leaf_holds (NamesWithin named) own_length prim has.0 (λ own is. (subst (HasPrefixPrimitive (length named.primitives)) is has.1, has.0))
+    (λ measure is. (subst (HasLeafQuestion (length named.statements)) is statements.3.0, has.0)))
     (scoped_all (NamesWithin named) list (element_rows name (Some simple) tried f)
     (λ n body is. scanned_holds (λ n. n < length named.delimiters) scanned f.terminator n is (λ own there. subst (HasList (length named.delimiters)) there lists.1))
     (λ content from. element_all (NamesWithin named) name (Some simple) tried f content from (framed_named named f None (lists.0, lists.1) tt statements.0 content from) (has.2, statements.1))
     first (first + 1))
-own_named named (CalculatedElement name simple statement f) slots lasts first has lists statements =
+own_named named (CalculatedElement name simple statement f) slots lasts first asked has lists statements =
     All-cons (NamesWithin named) (Statement statement) (element_rows name (Some simple) no_trials f first (first + 1)) statements.2
     (element_all (NamesWithin named) name (Some simple) no_trials f first (first + 1)
     (framed_named named f None (lists.0, lists.1) tt statements.0 first (first + 1)) ((tt, tt), statements.1))
-own_named named Hidden slots lasts first has lists statements = All-cons (NamesWithin named) (HiddenRow (get_or lasts 0 0)) [] tt (All-nil (NamesWithin named))
+own_named named Hidden slots lasts first asked has lists statements = All-cons (NamesWithin named) (HiddenRow (get_or lasts 0 0)) [] tt (All-nil (NamesWithin named))
 
--- each row is plain where there is neither a statement nor fill nor a delimiter nor a box nor a prefix
+-- each row is plain where there is neither a statement nor fill nor a delimiter nor a box nor a prefix nor a question
 module _ (f : Framing) (none : has_framing f ≡ false) where
   unframed_plain : (content first : ℕ) → All IsPlainRow (framed f None content first)
   unframed_plain content first = subst (All IsPlainRow) (sym (unframed f None content first none)) (All-nil IsPlainRow)
@@ -305,15 +319,16 @@ own_bare (Choice f initiated) slots lasts first bare few = absurd (let none = ba
 own_bare Hidden slots lasts first bare few = absurd (let none = bare.unhidden in cc)
 own_bare (CalculatedElement name simple statement f) slots lasts first bare few = absurd (let none = bare.uncalculated in cc)
 own_bare (Sequence f (Some own) initiated) slots lasts first bare few = absurd (let none = bare.unseparated in cc)
-own_bare (ComplexElement name f Unbounded occurs parsed) slots lasts first bare few =
+own_bare (ComplexElement name f Unbounded occurs often) slots lasts first bare few =
     unscoped_plain f bare.unframed (boxed_rows name f Unbounded) (λ content n. element_plain f bare.unframed name None no_trials content (n + 0))
     (get_or lasts 0 0) first
-own_bare (ComplexElement name f (Sized bits) occurs parsed) slots lasts first bare few = absurd (let none = bare.unboxed in cc)
-own_bare (ComplexElement name f (Prefixed prefix) occurs parsed) slots lasts first bare few = absurd (let none = bare.unboxed in cc)
-own_bare (SimpleElement name simple prim f prefix tried scanned occurs parsed) slots lasts first bare few =
+own_bare (ComplexElement name f (Sized bits) occurs often) slots lasts first bare few = absurd (let none = bare.unboxed in cc)
+own_bare (ComplexElement name f (Prefixed prefix) occurs often) slots lasts first bare few = absurd (let none = bare.unboxed in cc)
+own_bare (ComplexElement name f (Measured measure) occurs often) slots lasts first bare few = absurd (let none = bare.unboxed in cc)
+own_bare (SimpleElement name simple prim f own_length tried scanned occurs often) slots lasts first bare few =
     let list : Option ℕ = scanned_list scanned f.terminator in
-    All-cons IsPlainRow (leaf_row prefix prim) (scoped list (element_rows name (Some simple) tried f) first (first + 1))
-    (leaf_holds IsPlainRow prefix prim tt (λ own is. absurd (let none = bare.unprefixed in cc)))
+    All-cons IsPlainRow (leaf_row own_length prim) (scoped list (element_rows name (Some simple) tried f) first (first + 1))
+    (leaf_holds IsPlainRow own_length prim tt (λ own is. absurd (let none = bare.unmeasured in cc)) (λ measure is. absurd (let none = bare.unmeasured in cc)))
     (scoped_all IsPlainRow list (element_rows name (Some simple) tried f)
     (λ n body is. absurd (let none = none_scanned scanned f bare.unframed in cc)) (element_plain f bare.unframed name (Some simple) tried)
     first (first + 1))
@@ -327,22 +342,28 @@ once_group f [] = by (has_framing f)
     by false = omega arith
 once_group f (part ∷ parts) = omega arith
 
--- an element occurs once or never, and none of its occurrences is tried
+-- an element occurs once or never, and none of its occurrences is tried or told by a question
 record IsOnce (component : Component) : Type 0 where
   few : (occurs_in component).least ≤ 1
   untried : (occurs_in component).further ≡ 0
+  untold : question_in component ≡ None
+
+once_times : (occurs : Occurs) (often : Counted) → occurs.least ≤ 1 → occurs.further ≡ 0 → question_of often ≡ None → IsSingle (times_of occurs often)
+once_times occurs ByBounds few untried untold = record { few = few; untried = untried; untold = refl }
+once_times occurs Parsed few untried untold = record { few = few; untried = untried; untold = refl }
+once_times occurs (Told question) few untried untold = absurd (cc)
 
 once_slots : (component : Component) (parts : List ℕ) → IsOnce component → IsSingle (slots_of component parts)
-once_slots (Sequence f separated initiated) parts is = record { few = once_group f parts; untried = refl }
-once_slots (Choice f initiated) parts is = record { few = once_group f parts; untried = refl }
-once_slots (ComplexElement name f box occurs parsed) parts is = record { few = is.few; untried = is.untried }
-once_slots (SimpleElement name simple prim f prefix tried scanned occurs parsed) parts is = record { few = is.few; untried = is.untried }
-once_slots (CalculatedElement name simple statement f) parts is = record { few = omega arith; untried = refl }
-once_slots Hidden parts is = record { few = omega arith; untried = refl }
+once_slots (Sequence f separated initiated) parts is = record { few = once_group f parts; untried = refl; untold = refl }
+once_slots (Choice f initiated) parts is = record { few = once_group f parts; untried = refl; untold = refl }
+once_slots (ComplexElement name f box occurs often) parts is = once_times occurs often is.few is.untried is.untold
+once_slots (SimpleElement name simple prim f own_length tried scanned occurs often) parts is = once_times occurs often is.few is.untried is.untold
+once_slots (CalculatedElement name simple statement f) parts is = record { few = omega arith; untried = refl; untold = refl }
+once_slots Hidden parts is = record { few = omega arith; untried = refl; untold = refl }
 
 bare_once : (components : List Component) (p : ℕ) → All IsBareComponent components → IsOnce (component_at components p)
-bare_once [] p bare = record { few = omega arith; untried = refl }
-bare_once (k ∷ components) zero bare = let own = bare 0 k (omega arith) in record { few = own.once; untried = own.untried }
+bare_once [] p bare = record { few = omega arith; untried = refl; untold = refl }
+bare_once (k ∷ components) zero bare = let own = bare 0 k (omega arith) in record { few = own.once; untried = own.untried; untold = own.untold }
 bare_once (k ∷ components) (suc p) bare = bare_once components p (All-tail IsBareComponent k components bare)
 
 slots_once : (s : Schema) → All IsBareComponent s.components → (c : ℕ) → All IsSingle (slots_at s c)
@@ -354,11 +375,47 @@ slots_once s bare c = all (uses_of s.uses c)
         All-cons IsSingle (slots_of (component_at s.components p) (uses_of s.uses p)) (map (λ p. slots_of (component_at s.components p) (uses_of s.uses p)) ps)
         (once_slots (component_at s.components p) (uses_of s.uses p) (bare_once s.components p bare)) (all ps)
 
+-- the questions that tell how often the parts of a component occur are some of so many statements
+asked_times : (count : ℕ) (occurs : Occurs) (often : Counted) → IsWithin count (question_of often) → IsAsked count (times_of occurs often)
+asked_times count occurs ByBounds within = tt
+asked_times count occurs Parsed within = tt
+asked_times count occurs (Told question) within = within
+
+asked_slots : (count : ℕ) (component : Component) (parts : List ℕ) → IsWithin count (question_in component) → IsAsked count (slots_of component parts)
+asked_slots count (Sequence f separated initiated) parts within = tt
+asked_slots count (Choice f initiated) parts within = tt
+asked_slots count (ComplexElement name f box occurs often) parts within = asked_times count occurs often within
+asked_slots count (SimpleElement name simple prim f own_length tried scanned occurs often) parts within = asked_times count occurs often within
+asked_slots count (CalculatedElement name simple statement f) parts within = tt
+asked_slots count Hidden parts within = tt
+
+asked_one : (count : ℕ) (component : Component) → HasStatements count component → IsWithin count (question_in component)
+asked_one count (Sequence f separated initiated) has = tt
+asked_one count (Choice f initiated) has = tt
+asked_one count (ComplexElement name f box occurs often) has = has.3.1
+asked_one count (SimpleElement name simple prim f own_length tried scanned occurs often) has = has.3.1
+asked_one count (CalculatedElement name simple statement f) has = tt
+asked_one count Hidden has = tt
+
+asked_at : (count : ℕ) (components : List Component) (p : ℕ) → All (HasStatements count) components → IsWithin count (question_in (component_at components p))
+asked_at count [] p has = tt
+asked_at count (k ∷ components) zero has = asked_one count k (has 0 k (omega arith))
+asked_at count (k ∷ components) (suc p) has = asked_at count components p (All-tail (HasStatements count) k components has)
+
+slots_asked : (count : ℕ) (s : Schema) → All (HasStatements count) s.components → (c : ℕ) → All (IsAsked count) (slots_at s c)
+slots_asked count s has c = all (uses_of s.uses c)
+  where
+    all : (ps : List ℕ) → All (IsAsked count) (map (λ p. slots_of (component_at s.components p) (uses_of s.uses p)) ps)
+    all [] = All-nil (IsAsked count)
+    all (p ∷ ps) =
+        All-cons (IsAsked count) (slots_of (component_at s.components p) (uses_of s.uses p)) (map (λ p. slots_of (component_at s.components p) (uses_of s.uses p)) ps)
+        (asked_slots count (component_at s.components p) (uses_of s.uses p) (asked_at count s.components p has)) (all ps)
+
 module _ (s : Schema) (ordered : HasOrder s.uses) (one : AreOfOne s.uses s.components s.refusals s.places) where
   pub rows_named : (named : Named) → All (HasPrimitive (length named.primitives)) s.components → All (HasDelimiters (length named.delimiters)) s.components
       → All (HasStatements (length named.statements)) s.components → (c : ℕ) → c < length s.uses → IsAll (NamesWithin named) (rows_at s c)
   rows_named named has lists statements = rows_all s ordered (NamesWithin named)
-      (λ c within lasts first. own_named named (component_at s.components c) (slots_at s c) lasts first
+      (λ c within lasts first. own_named named (component_at s.components c) (slots_at s c) lasts first (slots_asked (length named.statements) s statements c)
       (All-get_or (HasPrimitive (length named.primitives)) s.components c (Sequence no_fill None false) (omega (arith, within, one.counted)) has)
       (All-get_or (HasDelimiters (length named.delimiters)) s.components c (Sequence no_fill None false) (omega (arith, within, one.counted)) lists)
       (All-get_or (HasStatements (length named.statements)) s.components c (Sequence no_fill None false) (omega (arith, within, one.counted)) statements))
@@ -428,22 +485,22 @@ own_last : (component : Component) (slots : List Times) (f : ℕ → Numbered) (
 own_last (Sequence framing separated initiated) slots f ps can some = tt
 own_last (Choice framing initiated) slots f ps can some = tt
 own_last Hidden slots f ps can some = tt
-own_last (ComplexElement name framing box occurs parsed) slots f ps can some =
+own_last (ComplexElement name framing box occurs often) slots f ps can some =
     complex_last name framing box (in_turn (map f ps) 0) (get_or (last_rows (map f ps) 0) 0 0) (0 + length (in_turn (map f ps) 0)) (omega arith)
     (omega (arith, one_part f ps can, turn_some f ps can some))
-own_last (SimpleElement name simple prim framing prefix tried scanned occurs parsed) slots f ps can some =
+own_last (SimpleElement name simple prim framing own_length tried scanned occurs often) slots f ps can some =
     let turn : List Row = in_turn (map f ps) 0 in
     let first : ℕ = 0 + length (in_turn (map f ps) 0) in
     let list : Option ℕ = scanned_list scanned framing.terminator in
     let whole : ℕ = scoped_row list first (first + 1) in
     let behind : ℕ = first + 1 + scope_size list in
     let own : List Row = element_rows name (Some simple) tried framing (scoped_row list first (first + 1)) (first + 1 + scope_size list) in
-    let before : List Row = turn ++ (leaf_row prefix prim ∷ scope_rows list first) in
-    let regrouped : turn ++ (leaf_row prefix prim ∷ (scope_rows list first ++ own)) ≡ before ++ own
-    = sym (append_assoc turn (leaf_row prefix prim ∷ scope_rows list first) own) in
+    let before : List Row = turn ++ (leaf_row own_length prim ∷ scope_rows list first) in
+    let regrouped : turn ++ (leaf_row own_length prim ∷ (scope_rows list first ++ own)) ≡ before ++ own
+    = sym (append_assoc turn (leaf_row own_length prim ∷ scope_rows list first) own) in
     subst (IsLast name (Some simple) tried framing.behind) (sym regrouped)
     (element_last before framing whole behind name (Some simple) tried
-    (omega (arith, length-append turn (leaf_row prefix prim ∷ scope_rows list first), length_scope list first)) (scope_end list first (first + 1) refl))
+    (omega (arith, length-append turn (leaf_row own_length prim ∷ scope_rows list first), length_scope list first)) (scope_end list first (first + 1) refl))
 own_last (CalculatedElement name simple statement framing) slots f ps can some =
     let turn : List Row = in_turn (map f ps) 0 in
     let first : ℕ = 0 + length (in_turn (map f ps) 0) in

@@ -72,13 +72,13 @@ length_group kind framing separated initiated slots parts first =
 pub length_own : (component : Component) (slots : List Times) (parts : List ℕ) (first : ℕ) → length (own_rows component slots parts first) ≡ own_size component slots
 length_own (Sequence framing separated initiated) slots parts first = length_group grouping.Sequence framing separated initiated slots parts first
 length_own (Choice framing initiated) slots parts first = length_group grouping.Choice framing None initiated slots parts first
-length_own (ComplexElement name framing box occurs parsed) slots parts first =
+length_own (ComplexElement name framing box occurs often) slots parts first =
     omega (
       arith,
       length_scoped (list_of framing.terminator) (boxed_rows name framing box) (1 + box_size box + framing_size framing None) (length_boxed name framing box)
           (get_or parts 0 0) first,
     )
-length_own (SimpleElement name simple prim framing prefix tried scanned occurs parsed) slots parts first =
+length_own (SimpleElement name simple prim framing own_length tried scanned occurs often) slots parts first =
     omega (
       arith,
       length_scoped (scanned_list scanned framing.terminator) (element_rows name (Some simple) tried framing) (1 + framing_size framing None)
@@ -115,8 +115,8 @@ length_rows s ordered = by_parts s.uses ordered.0 ordered.1 (λ c. IsLong (rows_
 some_own : (component : Component) (slots : List Times) (parts : ℕ) → 0 < own_size component slots + parts
 some_own (Sequence framing separated initiated) slots parts = omega arith
 some_own (Choice framing initiated) slots parts = omega arith
-some_own (ComplexElement name framing box occurs parsed) slots parts = omega arith
-some_own (SimpleElement name simple prim framing prefix tried scanned occurs parsed) slots parts = omega arith
+some_own (ComplexElement name framing box occurs often) slots parts = omega arith
+some_own (SimpleElement name simple prim framing own_length tried scanned occurs often) slots parts = omega arith
 some_own (CalculatedElement name simple statement framing) slots parts = omega arith
 some_own Hidden slots parts = omega arith
 

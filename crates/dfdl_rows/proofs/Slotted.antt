@@ -5,20 +5,22 @@ use Rattle.std.proofs.lemmas.List.Elements.{All-nil, All-tail, All-cons, All-app
 use Rattle.dfdl_separators.specs.declared.policy.SeparatorPosition.{SeparatorPosition}
 use Rattle.dfdl_separators.specs.declared.policy.SeparatorPosition.TheVariants.{Prefix, Infix, Postfix}
 use Rattle.dfdl_terms.specs.declared.row.Row.{Row}
-use Rattle.dfdl_terms.specs.declared.row.Row.TheVariants.{Group, Repeat, Optional, Separator}
+use Rattle.dfdl_terms.specs.declared.row.Row.TheVariants.{Group, Repeat, Counted, Optional, Separator}
 use Rattle.dfdl_rows.specs.Times.{has_tried}
 use Rattle.dfdl_rows.specs.declared.times.Times.{Times}
-use Rattle.dfdl_rows.specs.Slots.{Laid, laid, lay, with_part, all_laid, laid_of, needed, begins, ends, row_if, separator_rows, separator_size, part_rows, part_size, parts_size, repeating_rows, repeating_size, required_rows, required_size, required_children, tried_rows, tried_size, laid_size, part_children, repeated, single, with_separators}
+use Rattle.dfdl_rows.specs.Slots.{Laid, laid, lay, with_part, all_laid, laid_of, needed, begins, ends, row_if, separator_rows, separator_size, part_rows, rows_by, bounded_rows, part_size, part_size_by, bounded_size, parts_size, repeating_rows, repeating_size, required_rows, required_size, required_children, tried_rows, tried_size, laid_size, part_children, children_by, bounded_children, repeated, single, with_separators}
 use Rattle.dfdl_rows.specs.declared.component.Separated.{Separated}
 use Rattle.dfdl_rows.proofs.Nests.{NestsFrom, nests_none, nests_cons, nests_append}
 
--- what each part keeps, all of them keep
-pub lay_keeps : (P : Laid → Type 0) (initiated : Bool) (way : Option SeparatorPosition) (first : ℕ) (parts : List ℕ)
-    → ((n : Times) (part : ℕ) (a : Laid) → P a → P (with_part initiated way first n part a)) → (slots : List Times) (at : ℕ) (a : Laid) → P a → P (lay initiated way first parts slots at a)
+-- what each part that occurs in some way keeps, all of them keep
+pub lay_keeps : (P : Laid → Type 0) (Q : Times → Type 0) (initiated : Bool) (way : Option SeparatorPosition) (first : ℕ) (parts : List ℕ)
+    → ((n : Times) (part : ℕ) (a : Laid) → Q n → P a → P (with_part initiated way first n part a)) → (slots : List Times) → All Q slots
+    → (at : ℕ) (a : Laid) → P a → P (lay initiated way first parts slots at a)
 unfolding lay
-lay_keeps P initiated way first parts keeps [] at a has = has
-lay_keeps P initiated way first parts keeps (n ∷ slots) at a has =
-    lay_keeps P initiated way first parts keeps slots (at + 1) (with_part initiated way first n (get_or parts at 0) a) (keeps n (get_or parts at 0) a has)
+lay_keeps P Q initiated way first parts keeps [] all at a has = has
+lay_keeps P Q initiated way first parts keeps (n ∷ slots) all at a has =
+    lay_keeps P Q initiated way first parts keeps slots (All-tail Q n slots all) (at + 1) (with_part initiated way first n (get_or parts at 0) a)
+    (keeps n (get_or parts at 0) a (all 0 n (omega arith)) has)
 
 -- the same, where each part is one of some
 pub lay_keeps_within : (P : Laid → Type 0) (initiated : Bool) (way : Option SeparatorPosition) (first : ℕ) (parts : List ℕ)
@@ -54,13 +56,20 @@ length_tried initiated n part from = by (nat_lt 0 n.least)
     by true = refl
     by false = refl
 
-pub length_part : (initiated : Bool) (way : Option SeparatorPosition) (separator : ℕ) (n : Times) (part from : ℕ) → length (part_rows initiated way separator n part from) ≡ part_size way n
-length_part initiated way separator n part from = by (has_tried n)
+length_bounded : (initiated : Bool) (way : Option SeparatorPosition) (separator : ℕ) (n : Times) (part from : ℕ) → length (bounded_rows initiated way separator n part from) ≡ bounded_size way n
+length_bounded initiated way separator n part from = by (has_tried n)
   where
     by : (b : Bool)
         → length (if b then tried_rows initiated n part from else required_rows way separator n.least part from) ≡ (if b then tried_size n else required_size way n.least)
     by true = length_tried initiated n part from
     by false = length_required way separator n.least part from
+
+pub length_part : (initiated : Bool) (way : Option SeparatorPosition) (separator : ℕ) (n : Times) (part from : ℕ) → length (part_rows initiated way separator n part from) ≡ part_size way n
+length_part initiated way separator n part from = by n.question
+  where
+    by : (question : Option ℕ) → length (rows_by question initiated way separator n part from) ≡ part_size_by question way n
+    by None = length_bounded initiated way separator n part from
+    by (Some question) = refl
 
 -- how many rows are made
 pub length_lay : (initiated : Bool) (way : Option SeparatorPosition) (first : ℕ) (parts : List ℕ) (slots : List Times) (at : ℕ) (a : Laid)
@@ -85,6 +94,10 @@ pub length_laid : (initiated : Bool) (separated : Option Separated) (slots : Lis
 length_laid initiated separated slots parts first =
     let way : Option SeparatorPosition = needed separated slots in
     omega (arith, length_lay initiated way first parts slots 0 (laid (separator_rows way) [] false), length_separators way)
+
+-- this holds of the row of a part that is repeated as often as a question tells
+abbrev pub HoldsCounted : (Row → Type 0) → Times → Type 0
+HoldsCounted P n = (question body : ℕ) → n.question ≡ Some question → P (Counted question body)
 
 -- what holds of each row
 module _ (P : Row → Type 0) (own : P Separator) (group : (children : List ℕ) → P (Group children)) (repeat : (count body : ℕ) → P (Repeat count body))
@@ -119,28 +132,37 @@ module _ (P : Row → Type 0) (own : P Separator) (group : (children : List ℕ)
       by true = repeating_all way separator n part from
       by false = All-nil P
 
-  part_all : (initiated : Bool) (way : Option SeparatorPosition) (separator : ℕ) (n : Times) (part from : ℕ) → All P (part_rows initiated way separator n part from)
-  part_all initiated way separator n part from = by (has_tried n)
+  bounded_all : (initiated : Bool) (way : Option SeparatorPosition) (separator : ℕ) (n : Times) (part from : ℕ) → All P (bounded_rows initiated way separator n part from)
+  bounded_all initiated way separator n part from = by (has_tried n)
     where
       by : (b : Bool) → All P (if b then tried_rows initiated n part from else required_rows way separator n.least part from)
       by true = tried_all initiated n part from
       by false = required_all way separator n.least part from
 
+  part_all : (initiated : Bool) (way : Option SeparatorPosition) (separator : ℕ) (n : Times) (part from : ℕ) → HoldsCounted P n → All P (part_rows initiated way separator n part from)
+  part_all initiated way separator n part from counted = by n.question counted
+    where
+      by : (question : Option ℕ) → ((own body : ℕ) → question ≡ Some own → P (Counted own body)) → All P (rows_by question initiated way separator n part from)
+      by None holds = bounded_all initiated way separator n part from
+      by (Some question) holds = All-cons P (Counted question part) [] (holds question part refl) (All-nil P)
+
   separators_all : (way : Option SeparatorPosition) → All P (separator_rows way)
   separators_all None = All-nil P
   separators_all (Some position) = All-cons P Separator [] own (All-nil P)
 
-  pub laid_all : (initiated : Bool) (separated : Option Separated) (slots : List Times) (parts : List ℕ) (first : ℕ) → All P (laid_of initiated separated slots parts first).rows
-  laid_all initiated separated slots parts first =
+  pub laid_all : (initiated : Bool) (separated : Option Separated) (slots : List Times) → All (HoldsCounted P) slots → (parts : List ℕ) (first : ℕ)
+      → All P (laid_of initiated separated slots parts first).rows
+  laid_all initiated separated slots counted parts first =
       let way : Option SeparatorPosition = needed separated slots in
-      lay_keeps (λ a. All P a.rows) initiated way first parts
-      (λ n part a has. All-append P a.rows (part_rows initiated way first n part (first + length a.rows)) has (part_all initiated way first n part (first + length a.rows)))
-      slots 0 (laid (separator_rows way) [] false) (separators_all way)
+      lay_keeps (λ a. All P a.rows) (HoldsCounted P) initiated way first parts
+      (λ n part a holds has. All-append P a.rows (part_rows initiated way first n part (first + length a.rows)) has (part_all initiated way first n part (first + length a.rows) holds))
+      slots counted 0 (laid (separator_rows way) [] false) (separators_all way)
 
--- the part occurs once or never, and none of its occurrences is tried
+-- the part occurs once or never, and none of its occurrences is tried or told by a question
 pub record IsSingle (n : Times) : Type 0 where
   pub few : n.least ≤ 1
   pub untried : n.further ≡ 0
+  pub untold : n.question ≡ None
 
 -- without separators, parts that occur more than once and those that are tried there are no rows
 pub none_laid : (initiated : Bool) (slots : List Times) (parts : List ℕ) (first : ℕ) → All IsSingle slots → (laid_of initiated None slots parts first).rows ≡ []
@@ -154,7 +176,8 @@ none_laid initiated slots parts first few = all slots 0 (laid [] [] false) few
 
     single_rows : (n : Times) (part from : ℕ) → IsSingle n → part_rows initiated None first n part from ≡ []
     single_rows n part from is =
-        ap (λ (k : ℕ). if nat_lt 0 k then tried_rows initiated n part from else required_rows None first n.least part from) is.untried
+        ap (λ (question : Option ℕ). rows_by question initiated None first n part from) is.untold
+        ∙ ap (λ (k : ℕ). if nat_lt 0 k then tried_rows initiated n part from else required_rows None first n.least part from) is.untried
         ∙ one n.least part from is.few
 
     all : (ns : List Times) (at : ℕ) (a : Laid) → All IsSingle ns → (lay initiated None first parts ns at a).rows ≡ a.rows
@@ -213,12 +236,19 @@ module _ (separator part from : ℕ) (low : part < from) where
       by true = nests_repeating way n own
       by false = nests_none from
 
-  nests_part : (initiated : Bool) (way : Option SeparatorPosition) (n : Times) → SeparatorBelow way separator from → NestsFrom from (part_rows initiated way separator n part from)
-  nests_part initiated way n own = by (has_tried n)
+  nests_bounded : (initiated : Bool) (way : Option SeparatorPosition) (n : Times) → SeparatorBelow way separator from → NestsFrom from (bounded_rows initiated way separator n part from)
+  nests_bounded initiated way n own = by (has_tried n)
     where
       by : (b : Bool) → NestsFrom from (if b then tried_rows initiated n part from else required_rows way separator n.least part from)
       by true = nests_tried initiated n
       by false = nests_required way n.least own
+
+  nests_part : (initiated : Bool) (way : Option SeparatorPosition) (n : Times) → SeparatorBelow way separator from → NestsFrom from (part_rows initiated way separator n part from)
+  nests_part initiated way n own = by n.question
+    where
+      by : (question : Option ℕ) → NestsFrom from (rows_by question initiated way separator n part from)
+      by None = nests_bounded initiated way n own
+      by (Some question) = nests_cons from (Counted question part) [] low (nests_none (from + 1))
 
 -- the rows of the group stand below a number
 module _ (separator part bound : ℕ) (low : part < bound) where
@@ -257,9 +287,9 @@ module _ (separator part bound : ℕ) (low : part < bound) where
       by true few = repeated_below way taken from own few
       by false few = single_below way taken (nat_lt 0 n) own
 
-  children_below : (way : Option SeparatorPosition) (taken : Bool) (n : Times) (from : ℕ) → SeparatorBelow way separator bound → from + part_size way n ≤ bound
-      → All (λ k. k < bound) (part_children way separator taken n part from)
-  children_below way taken n from own = by (has_tried n)
+  bounded_below : (way : Option SeparatorPosition) (taken : Bool) (n : Times) (from : ℕ) → SeparatorBelow way separator bound → from + bounded_size way n ≤ bound
+      → All (λ k. k < bound) (bounded_children way separator taken n part from)
+  bounded_below way taken n from own = by (has_tried n)
     where
       some : (b : Bool) → 0 < (if b then 3 else 1)
       some true = omega arith
@@ -269,6 +299,14 @@ module _ (separator part bound : ℕ) (low : part < bound) where
           → All (λ k. k < bound) (if b then (from + tried_size n - 1) ∷ [] else required_children way separator taken n.least part from)
       by true few = let one : 0 < tried_size n = some (nat_lt 0 n.least) in only_below (from + tried_size n - 1) (omega (arith, few, one))
       by false few = required_below way taken n.least from own few
+
+  children_below : (way : Option SeparatorPosition) (taken : Bool) (n : Times) (from : ℕ) → SeparatorBelow way separator bound → from + part_size way n ≤ bound
+      → All (λ k. k < bound) (part_children way separator taken n part from)
+  children_below way taken n from own = by n.question
+    where
+      by : (question : Option ℕ) → from + part_size_by question way n ≤ bound → All (λ k. k < bound) (children_by question way separator taken n part from)
+      by None few = bounded_below way taken n from own few
+      by (Some question) few = only_below from (omega (arith, few))
 
 -- the rows so far nest, and those of the group stand below the next one
 pub record LaidNest (way : Option SeparatorPosition) (first : ℕ) (a : Laid) : Type 0 where
@@ -310,7 +348,7 @@ laid_nests initiated separated slots parts first long low =
 
 -- no occurrence
 abbrev pub never : Times
-never = record { least = 0; further = 0; is_item = false; is_parsed = false }
+never = record { least = 0; further = 0; is_item = false; is_parsed = false; question = None }
 
 -- one part is laid behind others
 pub lay_step : (initiated : Bool) (way : Option SeparatorPosition) (first : ℕ) (parts : List ℕ) (slots : List Times) (at : ℕ) (a : Laid) → at < length slots

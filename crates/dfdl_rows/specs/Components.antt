@@ -1,23 +1,25 @@
 -- The components of a schema: what each one is, and which components it has as its parts ('DFDL Schema Component Model').
-use Rattle.std.specs.Prelude.{◌≡◌, ℕ, ◌+◌, ◌<◌, ◌≤◌, Bool, true, false, List, [], length, map, get_or, Option, None, Some}
+use Rattle.std.specs.Prelude.{◌≡◌, ℕ, ◌<◌, ◌≤◌, Bool, true, false, List, [], length, map, get_or, Option, None, Some}
 use Rattle.dfdl_report.specs.declared.place.Place.{Place}
 use Rattle.dfdl_terms.specs.declared.delimiters.Delimiter.{Delimiter}
 use Rattle.dfdl_terms.specs.declared.framing.Framing.{Framing}
 use Rattle.dfdl_terms.specs.declared.occurs.Occurs.{Occurs}
-use Rattle.dfdl_terms.specs.declared.prefix.Prefix.{Prefix}
 use Rattle.dfdl_terms.specs.declared.representations.Representations.{Representations}
 use Rattle.dfdl_terms.specs.Framing.{no_fill}
 use Rattle.dfdl_terms.specs.Occurs.{occurs_once}
-use Rattle.dfdl_terms.specs.Rows.{AreStatements, AreWithin}
+use Rattle.dfdl_terms.specs.Rows.{AreStatements, AreWithin, IsWithin}
 use Rattle.dfdl_order.specs.Parts.{uses_of, IsOrder, Places}
 use Rattle.dfdl_rows.specs.declared.component.Component.{Component}
 use Rattle.dfdl_rows.specs.declared.component.Component.TheVariants.{Sequence, Choice, ComplexElement, SimpleElement, CalculatedElement, Hidden}
 use Rattle.dfdl_rows.specs.declared.component.Separated.{Separated}
 use Rattle.dfdl_rows.specs.declared.component.ContentBox.{ContentBox}
-use Rattle.dfdl_rows.specs.declared.component.ContentBox.TheVariants.{Unbounded, Sized, Prefixed}
+use Rattle.dfdl_rows.specs.declared.component.ContentBox.TheVariants.{Unbounded, Sized, Prefixed, Measured}
+use Rattle.dfdl_rows.specs.declared.component.LeafLength.{LeafLength}
+use Rattle.dfdl_rows.specs.declared.component.LeafLength.TheVariants as leaf_length
 use Rattle.dfdl_rows.specs.Framing.{has_framing}
 use Rattle.dfdl_rows.specs.Slots.{slots_of}
 use Rattle.dfdl_rows.specs.declared.times.Times.{Times}
+use Rattle.dfdl_rows.specs.Times.{question_of}
 use Rattle.dfdl_rows.specs.declared.refusal.Refusal.{Refusal}
 
 -- no representation is tried before the normal one
@@ -43,8 +45,8 @@ place_at places c = get_or places c (record { document = 0; at = 0 })
 abbrev pub CanHave : Component → List ℕ → Type 0
 CanHave (Sequence framing separated initiated) parts = Unit {0}
 CanHave (Choice framing initiated) parts = Unit {0}
-CanHave (ComplexElement name framing box occurs parsed) parts = length parts ≡ 1
-CanHave (SimpleElement name simple prim framing prefix tried scanned occurs parsed) parts = parts ≡ []
+CanHave (ComplexElement name framing box occurs often) parts = length parts ≡ 1
+CanHave (SimpleElement name simple prim framing own_length tried scanned occurs often) parts = parts ≡ []
 CanHave (CalculatedElement name simple statement framing) parts = parts ≡ []
 CanHave Hidden parts = length parts ≡ 1
 
@@ -59,24 +61,26 @@ pub record AreOfOne (uses : List (List ℕ)) (components : List Component) (refu
 abbrev pub HasOrder : List (List ℕ) → Type 0
 HasOrder uses = (order : Places) × IsOrder uses order
 
--- the primitive of a length prefix, where there is one, is one of so many
-abbrev pub HasPrefixPrimitive : ℕ → Option Prefix → Type 0
-HasPrefixPrimitive count None = Unit {0}
-HasPrefixPrimitive count (Some prefix) = prefix.prim < count
+-- the primitive of the length prefix before a simple content, where there is one, is one of so many
+abbrev pub HasPrefixPrimitive : ℕ → LeafLength → Type 0
+HasPrefixPrimitive count leaf_length.Own = Unit {0}
+HasPrefixPrimitive count (leaf_length.Prefixed prefix) = prefix.prim < count
+HasPrefixPrimitive count (leaf_length.Measured measure) = Unit {0}
 
 -- the primitive of the length prefix of a box, where it has one, is one of so many
 abbrev pub HasBoxPrimitive : ℕ → ContentBox → Type 0
 HasBoxPrimitive count Unbounded = Unit {0}
 HasBoxPrimitive count (Sized bits) = Unit {0}
 HasBoxPrimitive count (Prefixed prefix) = prefix.prim < count
+HasBoxPrimitive count (Measured measure) = Unit {0}
 
 -- the primitives of a component are some of so many: those of a simple element, whose representations are tried by some too,
 -- and those of length prefixes; a calculated value is read by none
 abbrev pub HasPrimitive : ℕ → Component → Type 0
 HasPrimitive count (Sequence framing separated initiated) = Unit {0}
 HasPrimitive count (Choice framing initiated) = Unit {0}
-HasPrimitive count (ComplexElement name framing box occurs parsed) = HasBoxPrimitive count box
-HasPrimitive count (SimpleElement name simple prim framing prefix tried scanned occurs parsed) = (prim < count) × HasPrefixPrimitive count prefix × AreWithin count tried
+HasPrimitive count (ComplexElement name framing box occurs often) = HasBoxPrimitive count box
+HasPrimitive count (SimpleElement name simple prim framing own_length tried scanned occurs often) = (prim < count) × HasPrefixPrimitive count own_length × AreWithin count tried
 HasPrimitive count (CalculatedElement name simple statement framing) = Unit {0}
 HasPrimitive count Hidden = Unit {0}
 
@@ -84,8 +88,8 @@ HasPrimitive count Hidden = Unit {0}
 abbrev pub framing_in : Component → Framing
 framing_in (Sequence framing separated initiated) = framing
 framing_in (Choice framing initiated) = framing
-framing_in (ComplexElement name framing box occurs parsed) = framing
-framing_in (SimpleElement name simple prim framing prefix tried scanned occurs parsed) = framing
+framing_in (ComplexElement name framing box occurs often) = framing
+framing_in (SimpleElement name simple prim framing own_length tried scanned occurs often) = framing
 framing_in (CalculatedElement name simple statement framing) = framing
 framing_in Hidden = no_fill
 
@@ -98,8 +102,8 @@ HasList count (Some delimiter) = delimiter.list < count
 abbrev pub separated_in : Component → Option Separated
 separated_in (Sequence framing separated initiated) = separated
 separated_in (Choice framing initiated) = None
-separated_in (ComplexElement name framing box occurs parsed) = None
-separated_in (SimpleElement name simple prim framing prefix tried scanned occurs parsed) = None
+separated_in (ComplexElement name framing box occurs often) = None
+separated_in (SimpleElement name simple prim framing own_length tried scanned occurs often) = None
 separated_in (CalculatedElement name simple statement framing) = None
 separated_in Hidden = None
 
@@ -117,49 +121,81 @@ HasDelimiters count component =
 abbrev pub HasCalculation : ℕ → Component → Type 0
 HasCalculation count (Sequence framing separated initiated) = Unit {0}
 HasCalculation count (Choice framing initiated) = Unit {0}
-HasCalculation count (ComplexElement name framing box occurs parsed) = Unit {0}
-HasCalculation count (SimpleElement name simple prim framing prefix tried scanned occurs parsed) = Unit {0}
+HasCalculation count (ComplexElement name framing box occurs often) = Unit {0}
+HasCalculation count (SimpleElement name simple prim framing own_length tried scanned occurs often) = Unit {0}
 HasCalculation count (CalculatedElement name simple statement framing) = statement < count
 HasCalculation count Hidden = Unit {0}
 
--- the statements of a component are some of so many: those before it and behind it, and that which calculates its value
+-- the question that tells how long a box is, where one does, is one of so many statements
+abbrev pub HasBoxQuestion : ℕ → ContentBox → Type 0
+HasBoxQuestion count Unbounded = Unit {0}
+HasBoxQuestion count (Sized bits) = Unit {0}
+HasBoxQuestion count (Prefixed prefix) = Unit {0}
+HasBoxQuestion count (Measured measure) = measure.question < count
+
+-- so is that which tells how long a simple content is
+abbrev pub HasLeafQuestion : ℕ → LeafLength → Type 0
+HasLeafQuestion count leaf_length.Own = Unit {0}
+HasLeafQuestion count (leaf_length.Prefixed prefix) = Unit {0}
+HasLeafQuestion count (leaf_length.Measured measure) = measure.question < count
+
+-- the questions of a component are some of so many statements: that which tells how long its content is, and that which tells how often it
+-- occurs
+abbrev pub HasQuestions : ℕ → Component → Type 0
+HasQuestions count (Sequence framing separated initiated) = Unit {0}
+HasQuestions count (Choice framing initiated) = Unit {0}
+HasQuestions count (ComplexElement name framing box occurs often) = HasBoxQuestion count box × IsWithin count (question_of often)
+HasQuestions count (SimpleElement name simple prim framing own_length tried scanned occurs often) = HasLeafQuestion count own_length × IsWithin count (question_of often)
+HasQuestions count (CalculatedElement name simple statement framing) = Unit {0}
+HasQuestions count Hidden = Unit {0}
+
+-- the statements of a component are some of so many: those before it and behind it, that which calculates its value, and its questions
 abbrev pub HasStatements : ℕ → Component → Type 0
 HasStatements count component =
-    AreStatements count (framing_in component).before × AreStatements count (framing_in component).behind × HasCalculation count component
+    AreStatements count (framing_in component).before × AreStatements count (framing_in component).behind × HasCalculation count component × HasQuestions count component
 
 -- the box around the content of a component
 abbrev pub box_in : Component → ContentBox
 box_in (Sequence framing separated initiated) = Unbounded
 box_in (Choice framing initiated) = Unbounded
-box_in (ComplexElement name framing box occurs parsed) = box
-box_in (SimpleElement name simple prim framing prefix tried scanned occurs parsed) = Unbounded
+box_in (ComplexElement name framing box occurs often) = box
+box_in (SimpleElement name simple prim framing own_length tried scanned occurs often) = Unbounded
 box_in (CalculatedElement name simple statement framing) = Unbounded
 box_in Hidden = Unbounded
 
--- the length prefix before the content of a simple element, where there is one
-abbrev pub prefix_in : Component → Option Prefix
-prefix_in (Sequence framing separated initiated) = None
-prefix_in (Choice framing initiated) = None
-prefix_in (ComplexElement name framing box occurs parsed) = None
-prefix_in (SimpleElement name simple prim framing prefix tried scanned occurs parsed) = prefix
-prefix_in (CalculatedElement name simple statement framing) = None
-prefix_in Hidden = None
+-- what gives the length of the content of a simple element; other components have none to be given
+abbrev pub length_in : Component → LeafLength
+length_in (Sequence framing separated initiated) = leaf_length.Own
+length_in (Choice framing initiated) = leaf_length.Own
+length_in (ComplexElement name framing box occurs often) = leaf_length.Own
+length_in (SimpleElement name simple prim framing own_length tried scanned occurs often) = own_length
+length_in (CalculatedElement name simple statement framing) = leaf_length.Own
+length_in Hidden = leaf_length.Own
 
 -- how often a component occurs where it stands in a group
 abbrev pub occurs_in : Component → Occurs
 occurs_in (Sequence framing separated initiated) = occurs_once
 occurs_in (Choice framing initiated) = occurs_once
-occurs_in (ComplexElement name framing box occurs parsed) = occurs
-occurs_in (SimpleElement name simple prim framing prefix tried scanned occurs parsed) = occurs
+occurs_in (ComplexElement name framing box occurs often) = occurs
+occurs_in (SimpleElement name simple prim framing own_length tried scanned occurs often) = occurs
 occurs_in (CalculatedElement name simple statement framing) = occurs_once
 occurs_in Hidden = occurs_once
+
+-- the question that tells how often a component occurs, where one does
+abbrev pub question_in : Component → Option ℕ
+question_in (Sequence framing separated initiated) = None
+question_in (Choice framing initiated) = None
+question_in (ComplexElement name framing box occurs often) = question_of often
+question_in (SimpleElement name simple prim framing own_length tried scanned occurs often) = question_of often
+question_in (CalculatedElement name simple statement framing) = None
+question_in Hidden = None
 
 -- a component is a choice
 abbrev pub is_choice : Component → Bool
 is_choice (Sequence framing separated initiated) = false
 is_choice (Choice framing initiated) = true
-is_choice (ComplexElement name framing box occurs parsed) = false
-is_choice (SimpleElement name simple prim framing prefix tried scanned occurs parsed) = false
+is_choice (ComplexElement name framing box occurs often) = false
+is_choice (SimpleElement name simple prim framing own_length tried scanned occurs often) = false
 is_choice (CalculatedElement name simple statement framing) = false
 is_choice Hidden = false
 
@@ -167,8 +203,8 @@ is_choice Hidden = false
 abbrev pub is_hidden : Component → Bool
 is_hidden (Sequence framing separated initiated) = false
 is_hidden (Choice framing initiated) = false
-is_hidden (ComplexElement name framing box occurs parsed) = false
-is_hidden (SimpleElement name simple prim framing prefix tried scanned occurs parsed) = false
+is_hidden (ComplexElement name framing box occurs often) = false
+is_hidden (SimpleElement name simple prim framing own_length tried scanned occurs often) = false
 is_hidden (CalculatedElement name simple statement framing) = false
 is_hidden Hidden = true
 
@@ -176,24 +212,26 @@ is_hidden Hidden = true
 abbrev pub is_calculated : Component → Bool
 is_calculated (Sequence framing separated initiated) = false
 is_calculated (Choice framing initiated) = false
-is_calculated (ComplexElement name framing box occurs parsed) = false
-is_calculated (SimpleElement name simple prim framing prefix tried scanned occurs parsed) = false
+is_calculated (ComplexElement name framing box occurs often) = false
+is_calculated (SimpleElement name simple prim framing own_length tried scanned occurs often) = false
 is_calculated (CalculatedElement name simple statement framing) = true
 is_calculated Hidden = false
 
--- there is neither a statement nor fill nor a delimiter nor a box around the content of a component, no separator in it, and no length prefix
--- before it, it is no choice and no hidden group, and it occurs no more than once, and no occurrence of it is tried; its value isn't calculated
+-- there is neither a statement nor fill nor a delimiter nor a box around the content of a component, no separator in it, and neither a length prefix
+-- before it nor an expression that gives its length, it is no choice and no hidden group, and it occurs no more than once, and no occurrence of it is
+-- tried or told by an expression; its value isn't calculated
 pub record IsBareComponent (component : Component) : Type 0 where
   pub unframed : has_framing (framing_in component) ≡ false
   pub unconcluded : (framing_in component).behind.count ≡ 0
   pub unboxed : box_in component ≡ Unbounded
-  pub unprefixed : prefix_in component ≡ None
+  pub unmeasured : length_in component ≡ leaf_length.Own
   pub unseparated : separated_in component ≡ None
   pub unchosen : is_choice component ≡ false
   pub unhidden : is_hidden component ≡ false
   pub uncalculated : is_calculated component ≡ false
   pub once : (occurs_in component).least ≤ 1
   pub untried : (occurs_in component).further ≡ 0
+  pub untold : question_in component ≡ None
 
 -- how often each part of a component occurs in it, in schema order
 abbrev pub slots_at : Schema → ℕ → List Times

@@ -9,8 +9,8 @@ use Rattle.dfdl_rows.specs.declared.component.Component.TheVariants.{Sequence, C
 abbrev pub own_depth : Component → ℕ
 own_depth (Sequence framing separated initiated) = 0
 own_depth (Choice framing initiated) = 0
-own_depth (ComplexElement name framing box occurs parsed) = 1
-own_depth (SimpleElement name simple prim framing prefix tried scanned occurs parsed) = 1
+own_depth (ComplexElement name framing box occurs often) = 1
+own_depth (SimpleElement name simple prim framing own_length tried scanned occurs often) = 1
 own_depth (CalculatedElement name simple statement framing) = 1
 own_depth Hidden = 0
 

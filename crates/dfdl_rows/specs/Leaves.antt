@@ -5,18 +5,19 @@ use Rattle.dfdl_terms.specs.declared.representations.Representations.{Representa
 use Rattle.dfdl_terms.specs.Leaves.{ReadsBy}
 use Rattle.dfdl_terms.specs.declared.framing.Framing.{Framing}
 use Rattle.dfdl_terms.specs.declared.occurs.Occurs.{Occurs}
-use Rattle.dfdl_terms.specs.declared.prefix.Prefix.{Prefix}
 use Rattle.dfdl_terms.specs.declared.row.Row.{Row}
-use Rattle.dfdl_terms.specs.declared.row.Row.TheVariants.{Leaf, Elem, Group, Skip, Align, Initiator, Terminator, Separator, Scope, Boxed, PrefixedLeaf, PrefixedBox, Repeat, Optional, Choice, Statement, Concluded, Hidden, Separated}
+use Rattle.dfdl_terms.specs.declared.row.Row.TheVariants.{Leaf, Elem, Group, Skip, Align, Initiator, Terminator, Separator, Scope, Boxed, PrefixedLeaf, PrefixedBox, MeasuredLeaf, MeasuredBox, Repeat, Counted as CountedRow, Optional, Choice, Dispatch, Statement, Concluded, Hidden, Separated}
 use Rattle.dfdl_terms.specs.declared.statement.Statements.{Statements}
+use Rattle.dfdl_rows.specs.declared.component.Counted.{Counted}
+use Rattle.dfdl_rows.specs.declared.component.LeafLength.{LeafLength}
 use Rattle.dfdl_rows.specs.declared.component.Component.{Component}
 use Rattle.dfdl_rows.specs.declared.component.Component.TheVariants.{SimpleElement, CalculatedElement}
 
--- one of the components is a simple element of this type, read by the primitive of this number, with a length prefix or without
+-- one of the components is a simple element of this type, read by the primitive of this number, whatever gives the length of its content
 abbrev pub IsAmong : List Component → Simple → ℕ → Type 0
 IsAmong components simple prim =
-    (number : ℕ) × (name : List ℕ) × (framing : Framing) × (prefix : Option Prefix) × (tried : Representations)
-    × (scanned : Bool) × (occurs : Occurs) × (parsed : Bool) × (slice_get components number ≡ Some (SimpleElement name simple prim framing prefix tried scanned occurs parsed))
+    (number : ℕ) × (name : List ℕ) × (framing : Framing) × (own_length : LeafLength) × (tried : Representations)
+    × (scanned : Bool) × (occurs : Occurs) × (often : Counted) × (slice_get components number ≡ Some (SimpleElement name simple prim framing own_length tried scanned occurs often))
 
 -- one of the components is an element of this type, whose value is calculated by the statement of this number
 abbrev pub IsCalculated : List Component → Simple → ℕ → Type 0
@@ -30,7 +31,7 @@ HaveLeaves components rows = (row : ℕ) (name : List ℕ) (simple : Simple) (tr
     → slice_get rows row ≡ Some (Elem name (Some simple) tried behind body)
     → ReadsBy rows (IsAmong components simple) (IsCalculated components simple) body
 
--- there is a row, and it is a leaf without a prefix, of the primitive of a component of the type
+-- there is a row, and it is a leaf with neither a prefix nor an expression for its length, of the primitive of a component of the type
 abbrev pub IsLeafOf : List Component → Simple → Option Row → Type 0
 IsLeafOf components simple (Some (Leaf prim)) = IsAmong components simple prim
 IsLeafOf components simple (Some (Elem name other tried behind body)) = ⊥
@@ -44,9 +45,13 @@ IsLeafOf components simple (Some (Scope list body)) = ⊥
 IsLeafOf components simple (Some (Boxed bits body)) = ⊥
 IsLeafOf components simple (Some (PrefixedLeaf prefix prim)) = ⊥
 IsLeafOf components simple (Some (PrefixedBox prefix body)) = ⊥
+IsLeafOf components simple (Some (MeasuredLeaf measure prim)) = ⊥
+IsLeafOf components simple (Some (MeasuredBox measure body)) = ⊥
 IsLeafOf components simple (Some (Repeat count body)) = ⊥
+IsLeafOf components simple (Some (CountedRow question body)) = ⊥
 IsLeafOf components simple (Some (Optional most item initiated body)) = ⊥
 IsLeafOf components simple (Some (Choice branches initiated)) = ⊥
+IsLeafOf components simple (Some (Dispatch question keys)) = ⊥
 IsLeafOf components simple (Some (Statement statement)) = ⊥
 IsLeafOf components simple (Some (Concluded behind body)) = ⊥
 IsLeafOf components simple (Some (Hidden body)) = ⊥

@@ -19,8 +19,8 @@ use Rattle.dfdl_rows.specs.declared.refusal.Refusal.{Refusal}
 abbrev pub is_element : Component → Bool
 is_element (Sequence framing separated initiated) = false
 is_element (Choice framing initiated) = false
-is_element (ComplexElement name framing box occurs parsed) = true
-is_element (SimpleElement name simple prim framing prefix tried scanned occurs parsed) = true
+is_element (ComplexElement name framing box occurs often) = true
+is_element (SimpleElement name simple prim framing own_length tried scanned occurs often) = true
 is_element (CalculatedElement name simple statement framing) = true
 is_element Hidden = false
 
@@ -28,8 +28,8 @@ is_element Hidden = false
 abbrev pub is_plain : Component → Bool
 is_plain (Sequence framing separated initiated) = true
 is_plain (Choice framing initiated) = true
-is_plain (ComplexElement name framing box occurs parsed) = false
-is_plain (SimpleElement name simple prim framing prefix tried scanned occurs parsed) = false
+is_plain (ComplexElement name framing box occurs often) = false
+is_plain (SimpleElement name simple prim framing own_length tried scanned occurs often) = false
 is_plain (CalculatedElement name simple statement framing) = false
 is_plain Hidden = true
 

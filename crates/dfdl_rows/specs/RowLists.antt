@@ -4,16 +4,17 @@ use Rattle.std.specs.Prelude.{ℕ, ◌+◌, ◌-◌, Bool, List, [], ◌∷◌, 
 use Rattle.dfdl_forms.specs.declared.simple.Simple.{Simple}
 use Rattle.dfdl_order.specs.Folds.{value_by}
 use Rattle.dfdl_terms.specs.declared.framing.Framing.{Framing}
-use Rattle.dfdl_terms.specs.declared.prefix.Prefix.{Prefix}
 use Rattle.dfdl_terms.specs.declared.representations.Representations.{Representations}
 use Rattle.dfdl_terms.specs.declared.row.Row.{Row}
-use Rattle.dfdl_terms.specs.declared.row.Row.TheVariants.{Leaf, Elem, PrefixedLeaf, Statement, Hidden as HiddenRow}
+use Rattle.dfdl_terms.specs.declared.row.Row.TheVariants.{Leaf, Elem, PrefixedLeaf, MeasuredLeaf, Statement, Hidden as HiddenRow}
 use Rattle.dfdl_rows.specs.Components.{Schema, component_at, no_trials, slots_at}
 use Rattle.dfdl_rows.specs.Boxes.{box_rows, boxed_row, box_size}
 use Rattle.dfdl_rows.specs.Framing.{concluded, framed, framed_row}
 use Rattle.dfdl_rows.specs.Scopes.{list_of, scanned_list, scope_rows, scoped_row, scope_size}
 use Rattle.dfdl_rows.specs.Slots.{grouped, separator_list, slots_size}
 use Rattle.dfdl_rows.specs.declared.component.ContentBox.{ContentBox}
+use Rattle.dfdl_rows.specs.declared.component.LeafLength.{LeafLength}
+use Rattle.dfdl_rows.specs.declared.component.LeafLength.TheVariants as leaf_length
 use Rattle.dfdl_rows.specs.declared.component.Separated.{Separated}
 use Rattle.dfdl_rows.specs.declared.times.Times.{Times}
 use Rattle.dfdl_rows.specs.declared.component.Component.{Component}
@@ -25,11 +26,12 @@ use Rattle.dfdl_rows.specs.declared.slots.Grouping.TheVariants as grouping
 abbrev pub Numbered : Type 0
 Numbered = ℕ → List Row
 
--- the row of the content of a simple element, which is read by the primitive of this number, with the length prefix before it,
--- where there is one
-abbrev pub leaf_row : Option Prefix → ℕ → Row
-leaf_row None prim = Leaf prim
-leaf_row (Some prefix) prim = PrefixedLeaf prefix prim
+-- the row of the content of a simple element, which is read by the primitive of this number, with what gives its length where the primitive
+-- doesn't: a length prefix before it, or an expression
+abbrev pub leaf_row : LeafLength → ℕ → Row
+leaf_row leaf_length.Own prim = Leaf prim
+leaf_row (leaf_length.Prefixed prefix) prim = PrefixedLeaf prefix prim
+leaf_row (leaf_length.Measured measure) prim = MeasuredLeaf measure prim
 
 -- the rows of an element around the row of its content, from a number on: those that frame it, and its own, which has the statements that are
 -- done behind it
@@ -72,10 +74,10 @@ group_rows kind framing separated initiated slots parts first =
 abbrev pub own_rows : Component → List Times → List ℕ → ℕ → List Row
 own_rows (Sequence framing separated initiated) slots parts first = group_rows grouping.Sequence framing separated initiated slots parts first
 own_rows (Choice framing initiated) slots parts first = group_rows grouping.Choice framing None initiated slots parts first
-own_rows (ComplexElement name framing box occurs parsed) slots parts first =
+own_rows (ComplexElement name framing box occurs often) slots parts first =
     scoped (list_of framing.terminator) (boxed_rows name framing box) (get_or parts 0 0) first
-own_rows (SimpleElement name simple prim framing prefix tried scanned occurs parsed) slots parts first =
-    leaf_row prefix prim
+own_rows (SimpleElement name simple prim framing own_length tried scanned occurs often) slots parts first =
+    leaf_row own_length prim
     ∷ scoped (scanned_list scanned framing.terminator) (element_rows name (Some simple) tried framing) first (first + 1)
 own_rows (CalculatedElement name simple statement framing) slots parts first =
     Statement statement ∷ element_rows name (Some simple) no_trials framing first (first + 1)

@@ -24,8 +24,8 @@ group_size framing separated slots =
 abbrev pub own_size : Component → List Times → ℕ
 own_size (Sequence framing separated initiated) slots = group_size framing separated slots
 own_size (Choice framing initiated) slots = group_size framing None slots
-own_size (ComplexElement name framing box occurs parsed) slots = 1 + scope_size (list_of framing.terminator) + box_size box + framing_size framing None
-own_size (SimpleElement name simple prim framing prefix tried scanned occurs parsed) slots =
+own_size (ComplexElement name framing box occurs often) slots = 1 + scope_size (list_of framing.terminator) + box_size box + framing_size framing None
+own_size (SimpleElement name simple prim framing own_length tried scanned occurs often) slots =
     2 + scope_size (scanned_list scanned framing.terminator) + framing_size framing None
 own_size (CalculatedElement name simple statement framing) slots = 2 + framing_size framing None
 own_size Hidden slots = 1

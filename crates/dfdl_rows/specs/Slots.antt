@@ -5,7 +5,7 @@ use Rattle.dfdl_separators.specs.declared.policy.SeparatorPosition.{SeparatorPos
 use Rattle.dfdl_separators.specs.declared.policy.SeparatorPosition.TheVariants.{Prefix, Infix, Postfix}
 use Rattle.dfdl_terms.specs.declared.framing.Framing.{Framing}
 use Rattle.dfdl_terms.specs.declared.row.Row.{Row}
-use Rattle.dfdl_terms.specs.declared.row.Row.TheVariants.{Group, Repeat, Separator, Optional, Choice as Chosen}
+use Rattle.dfdl_terms.specs.declared.row.Row.TheVariants.{Group, Repeat, Counted as CountedRow, Separator, Optional, Choice as Chosen}
 use Rattle.dfdl_rows.specs.Framing.{has_framing}
 use Rattle.dfdl_rows.specs.declared.component.Component.{Component}
 use Rattle.dfdl_rows.specs.declared.component.Component.TheVariants.{Sequence, Choice, ComplexElement, SimpleElement, CalculatedElement, Hidden}
@@ -27,8 +27,8 @@ slots_of_group framing (part ∷ parts) = 1
 abbrev pub slots_of : Component → List ℕ → Times
 slots_of (Sequence framing separated initiated) parts = required_times (slots_of_group framing parts)
 slots_of (Choice framing initiated) parts = required_times (slots_of_group framing parts)
-slots_of (ComplexElement name framing box occurs parsed) parts = times_of occurs parsed
-slots_of (SimpleElement name simple prim framing prefix tried scanned occurs parsed) parts = times_of occurs parsed
+slots_of (ComplexElement name framing box occurs often) parts = times_of occurs often
+slots_of (SimpleElement name simple prim framing own_length tried scanned occurs often) parts = times_of occurs often
 slots_of (CalculatedElement name simple statement framing) parts = required_times 0
 slots_of Hidden parts = required_times 1
 
@@ -115,15 +115,33 @@ abbrev pub required_children : Option SeparatorPosition → ℕ → Bool → ℕ
 required_children way separator taken slots part first =
     if nat_lt 1 slots then repeated way separator taken part first else single way separator taken (nat_lt 0 slots) part
 
--- the rows that repeat and try a part; where it is tried there is no separator
-abbrev pub part_rows : Bool → Option SeparatorPosition → ℕ → Times → ℕ → ℕ → List Row
-part_rows initiated way separator occurs part first =
+-- the rows that repeat and try a part by its bounds; where it is tried there is no separator
+abbrev pub bounded_rows : Bool → Option SeparatorPosition → ℕ → Times → ℕ → ℕ → List Row
+bounded_rows initiated way separator occurs part first =
     if has_tried occurs then tried_rows initiated occurs part first else required_rows way separator occurs.least part first
 
--- the rows of the group that stand for a part, where rows that repeat it or try it have this number on: for one that is tried the last
-abbrev pub part_children : Option SeparatorPosition → ℕ → Bool → Times → ℕ → ℕ → List ℕ
-part_children way separator taken occurs part first =
+-- the rows of the group that stand for such a part, where rows that repeat it or try it have this number on: for one that is tried the last
+abbrev pub bounded_children : Option SeparatorPosition → ℕ → Bool → Times → ℕ → ℕ → List ℕ
+bounded_children way separator taken occurs part first =
     if has_tried occurs then (first + tried_size occurs - 1) ∷ [] else required_children way separator taken occurs.least part first
+
+-- the rows that repeat a part as often as this question tells, or by its bounds where there is none
+abbrev pub rows_by : Option ℕ → Bool → Option SeparatorPosition → ℕ → Times → ℕ → ℕ → List Row
+rows_by None initiated way separator occurs part first = bounded_rows initiated way separator occurs part first
+rows_by (Some question) initiated way separator occurs part first = CountedRow question part ∷ []
+
+-- the rows of the group that stand for it
+abbrev pub children_by : Option ℕ → Option SeparatorPosition → ℕ → Bool → Times → ℕ → ℕ → List ℕ
+children_by None way separator taken occurs part first = bounded_children way separator taken occurs part first
+children_by (Some question) way separator taken occurs part first = first ∷ []
+
+-- the rows that repeat and try a part; one whose number of occurrences a question tells is repeated by one row
+abbrev pub part_rows : Bool → Option SeparatorPosition → ℕ → Times → ℕ → ℕ → List Row
+part_rows initiated way separator occurs part first = rows_by occurs.question initiated way separator occurs part first
+
+-- the rows of the group that stand for a part, where rows that repeat it or try it have this number on
+abbrev pub part_children : Option SeparatorPosition → ℕ → Bool → Times → ℕ → ℕ → List ℕ
+part_children way separator taken occurs part first = children_by occurs.question way separator taken occurs part first
 
 -- what is made of some parts of a group: the rows of its separators and those that repeat and try parts, the rows that stand in it, and
 -- whether one of the parts had a slot
@@ -170,9 +188,18 @@ repeating_size (Some position) = 2
 abbrev pub required_size : Option SeparatorPosition → ℕ → ℕ
 required_size way slots = if nat_lt 1 slots then repeating_size way else 0
 
+-- how many rows repeat and try a part by its bounds
+abbrev pub bounded_size : Option SeparatorPosition → Times → ℕ
+bounded_size way occurs = if has_tried occurs then tried_size occurs else required_size way occurs.least
+
+-- how many rows repeat a part as often as this question tells, or by its bounds where there is none
+abbrev pub part_size_by : Option ℕ → Option SeparatorPosition → Times → ℕ
+part_size_by None way occurs = bounded_size way occurs
+part_size_by (Some question) way occurs = 1
+
 -- how many rows repeat and try a part
 abbrev pub part_size : Option SeparatorPosition → Times → ℕ
-part_size way occurs = if has_tried occurs then tried_size occurs else required_size way occurs.least
+part_size way occurs = part_size_by occurs.question way occurs
 
 -- how many rows repeat and try the parts
 abbrev pub parts_size : Option SeparatorPosition → List Times → ℕ

@@ -15,6 +15,7 @@ pub(crate) fn box_size(content_box: ContentBox) -> u64
         ContentBox::Unbounded => 0,
         ContentBox::Sized(_) => 1,
         ContentBox::Prefixed(_) => 1,
+        ContentBox::Measured(_) => 1,
     }
 }
 
@@ -34,6 +35,7 @@ pub(crate) fn push_boxed(
         ContentBox::Unbounded => Ok(content),
         ContentBox::Sized(bits) => push_last(rows, Row::Boxed { bits, body }),
         ContentBox::Prefixed(prefix) => push_last(rows, Row::PrefixedBox { prefix, body }),
+        ContentBox::Measured(measure) => push_last(rows, Row::MeasuredBox { measure, body }),
     }
 }
 

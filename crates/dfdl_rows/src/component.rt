@@ -1,6 +1,6 @@
 use dfdl_forms::Simple;
 use dfdl_separators::{SeparatorPosition, SeparatorSuppressionPolicy};
-use dfdl_terms::{Framing, Occurs, Prefix, Representations};
+use dfdl_terms::{Framing, Measure, Occurs, Prefix, Representations};
 use dfdl_value::TextValue;
 
 /// The box around a content ('Lengths').
@@ -12,6 +12,30 @@ pub enum ContentBox {
     Sized(u64),
     /// As many units as a length prefix before it tells.
     Prefixed(Prefix),
+    /// As many units as an expression gives.
+    Measured(Measure),
+}
+
+/// What gives the length of a simple content ('Lengths').
+#[derive(Debug, Clone, Copy, PartialEq, Eq)]
+pub enum LeafLength {
+    /// The primitive that it is read by has one of its own.
+    Own,
+    /// A length prefix before it.
+    Prefixed(Prefix),
+    /// An expression.
+    Measured(Measure),
+}
+
+/// What gives how often an element occurs where it stands in a group ('Arrays and Optional Elements').
+#[derive(Debug, Clone, Copy, PartialEq, Eq)]
+pub enum Counted {
+    /// Its bounds. Those occurrences that are tried aren't of occursCountKind parsed.
+    ByBounds,
+    /// Its bounds. Those occurrences that are tried are of occursCountKind parsed.
+    Parsed,
+    /// The question of this number in the tables, by occursCountKind expression. The bounds play no part.
+    Told(u32),
 }
 
 /// The separators of a sequence ('Sequence Groups').
@@ -52,10 +76,10 @@ pub enum Component {
         framing: Framing,
         /// The box around its content.
         content_box: ContentBox,
-        /// How often it occurs where it stands in a group ('Arrays and Optional Elements').
+        /// The bounds of how often it occurs where it stands in a group ('Arrays and Optional Elements').
         occurs: Occurs,
-        /// The occurrences that are tried are of occursCountKind parsed.
-        is_parsed: bool,
+        /// What gives how often it occurs there.
+        counted: Counted,
     },
     /// An element without parts.
     SimpleElement {
@@ -66,16 +90,16 @@ pub enum Component {
         prim: u32,
         /// What frames its content, outside of the prefix.
         framing: Framing,
-        /// The length prefix before its content, if it has one ('Lengths').
-        prefix: Option<Prefix>,
+        /// What gives the length of its content.
+        length: LeafLength,
         /// The representations that are tried before its normal one ('DFDL Data Syntax Grammar').
         tried: Representations,
         /// Markup ends its content ('Lengths', on lengthKind delimited).
         is_scanned: bool,
-        /// How often it occurs where it stands in a group ('Arrays and Optional Elements').
+        /// The bounds of how often it occurs where it stands in a group ('Arrays and Optional Elements').
         occurs: Occurs,
-        /// The occurrences that are tried are of occursCountKind parsed.
-        is_parsed: bool,
+        /// What gives how often it occurs there.
+        counted: Counted,
     },
     /// An element without parts and without a representation, whose value is calculated ('Calculated Values').
     CalculatedElement {

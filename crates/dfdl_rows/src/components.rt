@@ -3,20 +3,20 @@ ghost use Rattle.std.specs.Prelude.{◌≡◌, ◌<◌, ◌↔◌, length, All, 
 ghost use Rattle.dfdl_order.specs.Parts.{uses_of, IsOrder};
 ghost use Rattle.dfdl_terms.specs.Rows.{AreStatements, AreWithin, IsWithin};
 ghost use Rattle.dfdl_rows.specs.Components.{AreOfOne, CanHave, HasOrder, component_at, framing_in, place_at, separated_in, slots_at};
-ghost use Rattle.dfdl_rows.specs.LeftOut.{is_slotless, is_stated, leaves_out};
-ghost use Rattle.dfdl_rows.specs.Refusals.{left_out, own_refusal};
-ghost use Rattle.dfdl_rows.specs.Components.{HasPrimitive, HasBoxPrimitive, HasPrefixPrimitive, HasCalculation, HasDelimiters, HasList, HasSeparators, HasStatements};
+ghost use Rattle.dfdl_rows.specs.LeftOut.{asks_slots, is_overfull, is_slotless, is_stated, leaves_out};
+ghost use Rattle.dfdl_rows.specs.Refusals.{overfull, own_refusal};
+ghost use Rattle.dfdl_rows.specs.Components.{HasPrimitive, HasBoxPrimitive, HasBoxQuestion, HasPrefixPrimitive, HasCalculation, HasDelimiters, HasLeafQuestion, HasList, HasQuestions, HasSeparators, HasStatements};
 ghost use Rattle.dfdl_rows.specs.Slots as slots;
-ghost use Rattle.dfdl_rows.specs.Times.{has_tried, have_tried};
+ghost use Rattle.dfdl_rows.specs.Times.{has_tried, have_told, have_tried, is_told, question_of};
 ghost use Rattle.std.specs.List.{list_any};
 
 use crate::component::Separated;
 use crate::framing::has_framing;
 use crate::times::{Times, has_slot, required_times, times_of};
-use crate::{Component, ContentBox, Refusal};
+use crate::{Component, ContentBox, Counted, LeafLength, Refusal};
 use dfdl_order::{Order, Uses};
 use dfdl_report::{Place, SchemaCause};
-use dfdl_terms::{Delimiter, Framing, Prefix, Representations, Statements};
+use dfdl_terms::{Delimiter, Framing, Representations, Statements};
 use std::alloc::{AllocError, Global};
 use std::marker::Model;
 
@@ -118,30 +118,70 @@ impl Components {
         Ok(slots)
     }
 
-    /// The refusal of a component's own: that which is given, and else that of what it leaves out.
+    /// The refusal of a component's own: that which is given, and else that of a part that it can't hold.
     pub(crate) fn refusal(&self, number: u32) -> Option<Refusal>
         requires { number < length self.now.uses }
         ensures { result ≡ own_refusal self.now number }
     {
         match self.refusals[number as usize] {
             Some(refusal) => Some(refusal),
-            None => self.left_out(number),
+            None => self.overfull(number),
         }
     }
 
-    // The refusal of a sequence that leaves out a part at which something is stated.
-    #[tactic(auto, unfolding(crate::specs::Refusals::left_out))]
-    fn left_out(&self, number: u32) -> Option<Refusal>
+    // The refusal of a sequence that has a part that it can't hold.
+    #[tactic(auto, unfolding(crate::specs::Refusals::overfull))]
+    fn overfull(&self, number: u32) -> Option<Refusal>
         requires { number < length self.now.uses }
-        ensures { result ≡ left_out self.now number }
+        ensures { result ≡ overfull self.now number }
     {
-        if !self.leaves_out(number) {
+        if !self.is_overfull(number) {
             return None;
         }
         Some(Refusal {
             cause: SchemaCause::OutsideSubset,
             place: self.place(number),
         })
+    }
+
+    // Whether a sequence has a part that it can't hold.
+    fn is_overfull(&self, number: u32) -> bool
+        requires { number < length self.now.uses }
+        ensures { result ≡ is_overfull self.now number }
+    {
+        self.asks_slots(number) || self.leaves_out(number)
+    }
+
+    // Whether a question tells how often some part of a sequence with separators occurs.
+    #[tactic(auto, unfolding(crate::specs::LeftOut::asks_slots))]
+    fn asks_slots(&self, number: u32) -> bool
+        requires { number < length self.now.uses }
+        ensures { result ≡ asks_slots self.now number }
+    {
+        separated_in(self.component(number)).is_some() && self.is_told_in(number)
+    }
+
+    // Whether a question tells how often some part of a component occurs.
+    fn is_told_in(&self, number: u32) -> bool
+        requires { number < length self.now.uses }
+        ensures { result ≡ have_told (slots_at self.now number) }
+    {
+        for part in self.parts(number) {
+            if self.is_told(*part) {
+                return true;
+            }
+        }
+        false
+    }
+
+    // Whether a question tells how often a part occurs.
+    fn is_told(&self, part: u32) -> bool
+        requires { part < length self.now.uses }
+        ensures { result ≡ is_told (slots.slots_of (component_at self.now.components part) (uses_of self.now.uses part)) }
+    {
+        slots_of(self.component(part), self.parts(part))
+            .question
+            .is_some()
     }
 
     // Whether a sequence leaves out a part at which something is stated.
@@ -254,14 +294,14 @@ fn slots_of(component: &Component, parts: &[u32]) -> Times
         }
         Component::ComplexElement {
             occurs,
-            is_parsed,
+            counted,
             ..
-        } => times_of(*occurs, *is_parsed),
+        } => times_of(*occurs, *counted),
         Component::SimpleElement {
             occurs,
-            is_parsed,
+            counted,
             ..
-        } => times_of(*occurs, *is_parsed),
+        } => times_of(*occurs, *counted),
         Component::CalculatedElement { .. } => required_times(0),
         Component::Hidden => required_times(1),
     }
@@ -311,12 +351,12 @@ fn has_primitive(component: &Component, count: u32) -> bool
         Component::ComplexElement { content_box, .. } => has_box_primitive(*content_box, count),
         Component::SimpleElement {
             prim,
-            prefix,
+            length,
             tried,
             ..
         } => {
             *prim < count
-                && has_prefix_primitive(*prefix, count)
+                && has_prefix_primitive(*length, count)
                 && has_tried_primitives(*tried, count)
         }
         Component::CalculatedElement { .. } => true,
@@ -348,16 +388,18 @@ fn has_box_primitive(content_box: ContentBox, count: u32) -> bool
         ContentBox::Unbounded => true,
         ContentBox::Sized(_) => true,
         ContentBox::Prefixed(prefix) => prefix.prim < count,
+        ContentBox::Measured(_) => true,
     }
 }
 
-// Whether the primitive of a length prefix, where there is one, is one of so many.
-fn has_prefix_primitive(prefix: Option<Prefix>, count: u32) -> bool
-    ensures { IsTrue result ↔ HasPrefixPrimitive count prefix }
+// Whether the primitive of the length prefix before a simple content, where there is one, is one of so many.
+fn has_prefix_primitive(own_length: LeafLength, count: u32) -> bool
+    ensures { IsTrue result ↔ HasPrefixPrimitive count own_length }
 {
-    match prefix {
-        Some(prefix) => prefix.prim < count,
-        None => true,
+    match own_length {
+        LeafLength::Own => true,
+        LeafLength::Prefixed(prefix) => prefix.prim < count,
+        LeafLength::Measured(_) => true,
     }
 }
 
@@ -381,7 +423,7 @@ fn has_delimiters(component: &Component, count: u32) -> bool
         && has_separators(separated_in(component), count)
 }
 
-/// Whether the statements of each component are some of so many.
+/// Whether the statements of each component are some of so many, its questions among them.
 pub fn have_statements(components: &[Component], count: u32) -> bool
     ensures have { IsTrue result → All (HasStatements count) components.now }
     ensures other { result ≡ false → All (HasStatements count) components.now → ⊥ }
@@ -399,6 +441,7 @@ fn has_statements(component: &Component, count: u32) -> bool
     are_statements(framing.before, count)
         && are_statements(framing.behind, count)
         && has_calculation(component, count)
+        && has_questions(component, count)
 }
 
 // Whether these statements are some of so many.
@@ -419,6 +462,62 @@ fn has_calculation(component: &Component, count: u32) -> bool
         Component::SimpleElement { .. } => true,
         Component::CalculatedElement { statement, .. } => *statement < count,
         Component::Hidden => true,
+    }
+}
+
+// Whether the questions of a component are some of so many statements.
+fn has_questions(component: &Component, count: u32) -> bool
+    ensures { IsTrue result ↔ HasQuestions count component.now }
+{
+    match component {
+        Component::Sequence { .. } => true,
+        Component::Choice { .. } => true,
+        Component::ComplexElement {
+            content_box,
+            counted,
+            ..
+        } => has_box_question(*content_box, count) && has_count_question(*counted, count),
+        Component::SimpleElement {
+            length,
+            counted,
+            ..
+        } => { has_leaf_question(*length, count) && has_count_question(*counted, count) }
+        Component::CalculatedElement { .. } => true,
+        Component::Hidden => true,
+    }
+}
+
+// Whether the question that tells how long a box is, where one does, is one of so many statements.
+fn has_box_question(content_box: ContentBox, count: u32) -> bool
+    ensures { IsTrue result ↔ HasBoxQuestion count content_box }
+{
+    match content_box {
+        ContentBox::Unbounded => true,
+        ContentBox::Sized(_) => true,
+        ContentBox::Prefixed(_) => true,
+        ContentBox::Measured(measure) => measure.question < count,
+    }
+}
+
+// Whether the question that tells how long a simple content is, where one does, is one of so many statements.
+fn has_leaf_question(own_length: LeafLength, count: u32) -> bool
+    ensures { IsTrue result ↔ HasLeafQuestion count own_length }
+{
+    match own_length {
+        LeafLength::Own => true,
+        LeafLength::Prefixed(_) => true,
+        LeafLength::Measured(measure) => measure.question < count,
+    }
+}
+
+// Whether the question that tells how often an element occurs, where one does, is one of so many statements.
+fn has_count_question(counted: Counted, count: u32) -> bool
+    ensures { IsTrue result ↔ IsWithin count (question_of counted) }
+{
+    match counted {
+        Counted::ByBounds => true,
+        Counted::Parsed => true,
+        Counted::Told(question) => question < count,
     }
 }
 

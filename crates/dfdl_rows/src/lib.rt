@@ -25,7 +25,7 @@ mod slots;
 mod times;
 mod walk;
 
-pub use component::{Component, ContentBox, Separated};
+pub use component::{Component, ContentBox, Counted, LeafLength, Separated};
 pub use components::{Components, are_of_one, have_delimiters, have_primitives, have_statements};
 pub use fault::RowsFault;
 pub use refusal::Refusal;

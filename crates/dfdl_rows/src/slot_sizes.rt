@@ -50,6 +50,17 @@ fn part_size(way: Option<SeparatorPosition>, times: Times) -> u64
     ensures size { result ≡ spec.part_size way times }
     ensures few { result ≤ 3 }
 {
+    match times.question {
+        Some(_) => 1,
+        None => bounded_size(way, times),
+    }
+}
+
+// How many rows repeat and try a part by its bounds.
+fn bounded_size(way: Option<SeparatorPosition>, times: Times) -> u64
+    ensures size { result ≡ spec.bounded_size way times }
+    ensures few { result ≤ 3 }
+{
     if times.further > 0 {
         u64::from(tried_size(times.least))
     } else {

@@ -242,6 +242,53 @@ fn push_required(
     push_repeated(children, way, separator, taken, part, number)
 }
 
+// Adds what stands for a part that is repeated and tried by its bounds, where the rows of the group's own begin at a number.
+fn push_bounded(
+    alloc: Global,
+    rows: &mut Vec<Row>,
+    children: &mut Vec<RowId>,
+    initiated: bool,
+    way: Option<SeparatorPosition>,
+    first: u32,
+    taken: bool,
+    times: Times,
+    part: RowId,
+) -> Result<(), AllocError>
+    requires { first + length rows.old.items + spec.bounded_size way times < 2 ^ 32 }
+    ensures rows { OnOk result (rows.new.items
+        ≡ rows.old.items ++ spec.bounded_rows initiated way first times part (first + length rows.old.items)) }
+    ensures children { OnOk result (children.new.items
+        ≡ children.old.items ++ spec.bounded_children way first taken times part (first + length rows.old.items)) }
+{
+    if times.further == 0 {
+        return push_required(alloc, rows, children, way, first, taken, times.least, part);
+    }
+    let number = first + rows.len() as u32;
+    push_tried(alloc, rows, initiated, times, part, number)?;
+    children.push(RowId::new(number + tried_size(times.least) - 1))?;
+    Ok(())
+}
+
+// Adds what stands for a part that is repeated as often as a question tells, where the rows of the group's own begin at a number.
+fn push_counted(
+    rows: &mut Vec<Row>,
+    children: &mut Vec<RowId>,
+    first: u32,
+    question: u32,
+    part: RowId,
+) -> Result<(), AllocError>
+    requires { first + length rows.old.items < 2 ^ 32 }
+    ensures rows { OnOk result (rows.new.items ≡ rows.old.items ++ Row.Counted question part ∷ []) }
+    ensures children { OnOk result (children.new.items ≡ children.old.items ++ (first + length rows.old.items) ∷ []) }
+{
+    children.push(RowId::new(first + rows.len() as u32))?;
+    rows.push(Row::Counted {
+        question,
+        body: part,
+    })?;
+    Ok(())
+}
+
 // Adds what stands for a part, where the rows of the group's own begin at a number.
 fn push_part(
     alloc: Global,
@@ -260,13 +307,12 @@ fn push_part(
     ensures children { OnOk result (children.new.items
         ≡ children.old.items ++ spec.part_children way first taken times part (first + length rows.old.items)) }
 {
-    if times.further == 0 {
-        return push_required(alloc, rows, children, way, first, taken, times.least, part);
+    match times.question {
+        Some(question) => push_counted(rows, children, first, question, part),
+        None => push_bounded(
+            alloc, rows, children, initiated, way, first, taken, times, part,
+        ),
     }
-    let number = first + rows.len() as u32;
-    push_tried(alloc, rows, initiated, times, part, number)?;
-    children.push(RowId::new(number + tried_size(times.least) - 1))?;
-    Ok(())
 }
 
 // Whether a part had a slot so far, where one with so many comes.

@@ -2,6 +2,7 @@
 ghost use Rattle.std.specs.Prelude.{◌≡◌};
 ghost use Rattle.dfdl_rows.specs.Times as spec;
 
+use crate::Counted;
 use dfdl_terms::Occurs;
 
 /// How often a part occurs in the group that it stands in.
@@ -15,6 +16,8 @@ pub(crate) struct Times {
     pub(crate) is_item: bool,
     /// Those that are tried are of occursCountKind parsed.
     pub(crate) is_parsed: bool,
+    /// The number in the tables of the question that tells how many there are, where one does. None is required or tried then.
+    pub(crate) question: Option<u32>,
 }
 
 /// So many times, each of which is required.
@@ -26,18 +29,44 @@ pub(crate) fn required_times(count: u32) -> Times
         further: 0,
         is_item: count > 1,
         is_parsed: false,
+        question: None,
     }
 }
 
-/// As often as an element occurs, of occursCountKind parsed or not.
-pub(crate) fn times_of(occurs: Occurs, is_parsed: bool) -> Times
-    ensures { result ≡ spec.times_of occurs is_parsed }
+// As often as the bounds of an element say, of occursCountKind parsed or not.
+fn bounded_times(occurs: Occurs, is_parsed: bool) -> Times
+    ensures { result ≡ spec.bounded_times occurs is_parsed }
 {
     Times {
         least: occurs.least,
         further: occurs.further,
         is_item: occurs.is_item,
         is_parsed,
+        question: None,
+    }
+}
+
+// As often as a question tells.
+fn told_times(question: u32) -> Times
+    ensures { result ≡ spec.told_times question }
+{
+    Times {
+        least: 0,
+        further: 0,
+        is_item: true,
+        is_parsed: false,
+        question: Some(question),
+    }
+}
+
+/// As often as an element occurs.
+pub(crate) fn times_of(occurs: Occurs, counted: Counted) -> Times
+    ensures { result ≡ spec.times_of occurs counted }
+{
+    match counted {
+        Counted::ByBounds => bounded_times(occurs, false),
+        Counted::Parsed => bounded_times(occurs, true),
+        Counted::Told(question) => told_times(question),
     }
 }
 
@@ -48,7 +77,7 @@ pub(crate) fn have_tried(slots: &[Times]) -> bool
     slots.iter().any(|times| times.further > 0)
 }
 
-/// Whether there is an occurrence: the part has a slot.
+/// Whether there is an occurrence, as far as no question tells that: the part has a slot.
 pub(crate) fn has_slot(times: Times) -> bool
     ensures { result ≡ spec.has_slot times }
 {

@@ -16,9 +16,9 @@ use crate::framing::{push_conclusion, push_framed};
 use crate::scopes::{list_of, push_scoped, scanned_list, separator_list};
 use crate::slots::{Group, Grouping, push_group};
 use crate::times::Times;
-use crate::{Component, Components};
+use crate::{Component, Components, LeafLength};
 use dfdl_forms::Simple;
-use dfdl_terms::{Framing, Prefix, Representations, Row, RowId, Statements};
+use dfdl_terms::{Framing, Representations, Row, RowId, Statements};
 use dfdl_value::TextValue;
 use std::alloc::{AllocError, Global};
 use std::collections::VecDeque;
@@ -214,13 +214,13 @@ fn push_own(
             simple,
             prim,
             framing,
-            prefix,
+            length,
             tried,
             is_scanned,
             ..
         } => {
             let content = RowId::new(rows.len() as u32);
-            rows.push(leaf_row(*prefix, *prim))?;
+            rows.push(leaf_row(*length, *prim))?;
             let list = scanned_list(*is_scanned, framing.terminator);
             let scoped = push_scoped(rows, list, content)?;
             let body = push_framed(alloc, rows, *framing, None, scoped)?;
@@ -305,13 +305,14 @@ fn push_around(
     Ok(())
 }
 
-// The row of the content of a simple element, with the length prefix before it, where there is one.
-fn leaf_row(prefix: Option<Prefix>, prim: u32) -> Row
-    ensures { result ≡ lists.leaf_row prefix prim }
+// The row of the content of a simple element, with what gives its length.
+fn leaf_row(own_length: LeafLength, prim: u32) -> Row
+    ensures { result ≡ lists.leaf_row own_length prim }
 {
-    match prefix {
-        Some(prefix) => Row::PrefixedLeaf { prefix, prim },
-        None => Row::Leaf { prim },
+    match own_length {
+        LeafLength::Own => Row::Leaf { prim },
+        LeafLength::Prefixed(prefix) => Row::PrefixedLeaf { prefix, prim },
+        LeafLength::Measured(measure) => Row::MeasuredLeaf { measure, prim },
     }
 }
 

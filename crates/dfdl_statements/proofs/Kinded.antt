@@ -14,9 +14,10 @@ use Rattle.dfdl_report.specs.declared.cause.SchemaCause.{SchemaCause}
 use Rattle.dfdl_statements.specs.declared.written.Target.{Target}
 use Rattle.dfdl_expression_types.specs.declared.types.ValueType.TheVariants as one
 use Rattle.dfdl_terms.specs.declared.statement.Statement.{Statement}
+use Rattle.dfdl_statements.specs.declared.written.Asked.{Asked}
 use Rattle.dfdl_statements.specs.declared.written.Source.{Source}
 use Rattle.dfdl_statements.specs.declared.written.Source.TheVariants as written
-use Rattle.dfdl_statements.specs.Making.{Nodes, as_calculation, as_setting, as_test, constant, expression, made, setting, setting_made}
+use Rattle.dfdl_statements.specs.Making.{Nodes, as_calculation, as_question, as_setting, as_test, constant, expression, made, setting, setting_made, types_asked}
 use Rattle.dfdl_statements.specs.MakingShown.{Gives, cause_in}
 
 module _ (read : List ℕ → Option Formula) (s : Statics) (wanted : Types) (text : List ℕ) (answer : Result (List Node) Fault) where
@@ -58,6 +59,15 @@ pub calculation_cause : (kind : Simple) (due : Nodes) → cause_in due ≡ cause
 calculation_cause kind (Ok nodes) = refl
 calculation_cause kind (Err cause) = refl
 
+pub question_cause : (due : Nodes) → cause_in due ≡ cause_in (as_question due)
+question_cause (Ok nodes) = refl
+question_cause (Err cause) = refl
+
+pub of_asked : (read : List ℕ → Option Formula) (s : Statics) (text seen : List ℕ) (asked : Asked) (wanted : Types) (answer : Result (List Node) Fault)
+    → seen ≡ text → wanted ≡ types_asked asked → Gives (expression read s wanted seen) answer → Gives (expression read s (types_asked asked) text) answer
+of_asked read s text seen asked wanted answer same types given =
+    subst (λ w. Gives (expression read s w text) answer) types (subst (λ t. Gives (expression read s wanted t) answer) same given)
+
 module _ (read : List ℕ → Option Formula) (s : Statics) (answer : Result Statement Fault) (source : Source) where
   -- what is made of each kind
   pub test_made : (text seen : List ℕ) (discriminates : Bool) (message : Option (List ℕ)) (wanted : Types) (found : Result (List Node) Fault)
@@ -80,6 +90,13 @@ module _ (read : List ℕ → Option Formula) (s : Statics) (answer : Result Sta
       subst (λ o. Gives (made read s o) answer) (sym is)
       (all (expression read s (only (type_of kind)) text)
       (of_kind read s wanted text found v kind types of (subst (λ t. Gives (expression read s wanted t) found) same given)))
+
+  pub question_made : (text seen : List ℕ) (asked : Asked) (wanted : Types) (found : Result (List Node) Fault)
+      → source ≡ written.Question asked text → seen ≡ text → wanted ≡ types_asked asked → Gives (expression read s wanted seen) found
+      → ((due : Nodes) → Gives due found → Gives (as_question due) answer) → Gives (made read s source) answer
+  question_made text seen asked wanted found is same types given all =
+      subst (λ o. Gives (made read s o) answer) (sym is)
+      (all (expression read s (types_asked asked) text) (of_asked read s text seen asked wanted found same types given))
 
 -- what sets a variable, if there is one
 pub target_made : (read : List ℕ → Option Formula) (s : Statics) (answer : Result Statement Fault) (text : List ℕ) (variable : Option Target) (target : Target)
@@ -115,6 +132,14 @@ module _ {E : Type 0} (read : List ℕ → Option Formula) (s : Statics) (r : Re
       (caused r (cause_in due) (cause_in (as_calculation kind due))
       (all due (of_kind read s wanted text found v kind types of (subst (λ t. Gives (expression read s wanted t) found) same given)))
       (calculation_cause kind due))
+
+  pub question_told : (source : Source) (text seen : List ℕ) (asked : Asked) (wanted : Types) (found : Result (List Node) Fault)
+      → source ≡ written.Question asked text → seen ≡ text → wanted ≡ types_asked asked → Gives (expression read s wanted seen) found
+      → ((due : Nodes) → Gives due found → IfOk r (λ cause. cause ≡ cause_in due)) → IfOk r (λ cause. cause ≡ cause_in (made read s source))
+  question_told source text seen asked wanted found is same types given all =
+      let due = expression read s (types_asked asked) text in
+      subst (λ o. IfOk r (λ cause. cause ≡ cause_in (made read s o))) (sym is)
+      (caused r (cause_in due) (cause_in (as_question due)) (all due (of_asked read s text seen asked wanted found same types given)) (question_cause due))
 
   pub target_told : (text : List ℕ) (variable : Option Target) (target : Target) (found : Result (List Node) Fault) → variable ≡ Some target
       → Gives (setting read s target.kind text) found → ((due : Nodes) → Gives due found → IfOk r (λ cause. cause ≡ cause_in due))

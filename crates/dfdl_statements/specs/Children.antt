@@ -2,7 +2,7 @@
 use Rattle.std.specs.Prelude.{ℕ, List, [], ◌∷◌, map, Option, Some, None}
 use Rattle.dfdl_forms.specs.declared.simple.Simple.{Simple}
 use Rattle.dfdl_terms.specs.declared.row.Row.{Row}
-use Rattle.dfdl_terms.specs.declared.row.Row.TheVariants.{Leaf, Elem, Group, Skip, Align, Initiator, Terminator, Separator, Scope, Boxed, PrefixedLeaf, PrefixedBox, Repeat, Optional, Choice, Statement, Concluded, Hidden, Separated}
+use Rattle.dfdl_terms.specs.declared.row.Row.TheVariants.{Leaf, Elem, Group, Skip, Align, Initiator, Terminator, Separator, Scope, Boxed, PrefixedLeaf, PrefixedBox, MeasuredLeaf, MeasuredBox, Repeat, Counted, Optional, Choice, Dispatch, Statement, Concluded, Hidden, Separated}
 
 -- their numbers, in schema order
 abbrev pub children_of : Row → List ℕ
@@ -18,9 +18,13 @@ children_of (Scope list body) = body ∷ []
 children_of (Boxed bits body) = body ∷ []
 children_of (PrefixedLeaf prefix prim) = []
 children_of (PrefixedBox prefix body) = body ∷ []
+children_of (MeasuredLeaf measure prim) = []
+children_of (MeasuredBox measure body) = body ∷ []
 children_of (Repeat count body) = body ∷ []
+children_of (Counted question body) = body ∷ []
 children_of (Optional most item initiated body) = body ∷ []
 children_of (Choice branches initiated) = branches
+children_of (Dispatch question keys) = map (λ key. key.body) keys
 children_of (Statement statement) = []
 children_of (Concluded behind body) = body ∷ []
 children_of (Hidden body) = body ∷ []
@@ -51,7 +55,15 @@ abbrev pub group_in : Option Row → Option (List ℕ)
 group_in (Some (Group children)) = Some children
 group_in _ = None
 
--- the statement that a row is
+-- the statement that a row is, or by which it asks for its length
 abbrev pub statement_in : Option Row → Option ℕ
 statement_in (Some (Statement statement)) = Some statement
+statement_in (Some (MeasuredLeaf measure prim)) = Some measure.question
+statement_in (Some (MeasuredBox measure body)) = Some measure.question
 statement_in _ = None
+
+-- the statement by which a row asks how often what is in it occurs, or which branch is taken
+abbrev pub question_in : Option Row → Option ℕ
+question_in (Some (Counted question body)) = Some question
+question_in (Some (Dispatch question keys)) = Some question
+question_in _ = None

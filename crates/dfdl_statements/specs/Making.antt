@@ -1,5 +1,5 @@
 -- What is made of a statement that a schema writes, or why none is. 'DFDL Schema Component Model' (on asserts, discriminators and
--- variables), 'DFDL Expression Language', 'Calculated Values'.
+-- variables), 'DFDL Expression Language', 'Calculated Values', 'Lengths', 'Arrays and Optional Elements', 'Choices'.
 use Rattle.std.specs.Prelude.{◌≡◌, ℕ, Bool, true, false, if◌then◌else◌, List, [], ◌∷◌, Option, Some, None, Result, Ok, Err}
 use Rattle.std.specs.List.{list_any}
 use Rattle.dfdl_forms.specs.declared.simple.Simple.{Simple}
@@ -17,7 +17,7 @@ use Rattle.dfdl_expression_types.specs.declared.fault.TypeFault.TheVariants as f
 use Rattle.dfdl_expression_types.specs.declared.statics.Statics.{Statics}
 use Rattle.dfdl_expression_types.specs.declared.types.Types.{Types}
 use Rattle.dfdl_expression_types.specs.declared.types.ValueType.TheVariants as one
-use Rattle.dfdl_expression_types.specs.TypeSets.{are_apart, only, type_of}
+use Rattle.dfdl_expression_types.specs.TypeSets.{are_apart, every, only, type_of}
 use Rattle.dfdl_expression_types.specs.Verdicts.{types_or_fault}
 use Rattle.dfdl_expression_compile.specs.Compiling.{nodes_of}
 use Rattle.dfdl_report.specs.declared.cause.SchemaCause.{SchemaCause}
@@ -25,6 +25,8 @@ use Rattle.dfdl_report.specs.declared.cause.SchemaCause.TheVariants.{OutsideSubs
 use Rattle.dfdl_scope.specs.Expressions.{is_expression, literal}
 use Rattle.dfdl_terms.specs.declared.statement.Statement.{Statement}
 use Rattle.dfdl_terms.specs.declared.statement.Statement.TheVariants as statement
+use Rattle.dfdl_statements.specs.declared.written.Asked.{Asked}
+use Rattle.dfdl_statements.specs.declared.written.Asked.TheVariants as asked
 use Rattle.dfdl_statements.specs.declared.written.Source.{Source}
 use Rattle.dfdl_statements.specs.declared.written.Source.TheVariants as source
 use Rattle.dfdl_statements.specs.declared.written.Target.{Target}
@@ -99,6 +101,16 @@ abbrev pub as_calculation : Simple → Nodes → Result Statement SchemaCause
 as_calculation kind (Ok nodes) = Ok (statement.Calculation (record { kind = kind; expression = nodes }))
 as_calculation kind (Err cause) = Err cause
 
+abbrev pub as_question : Nodes → Result Statement SchemaCause
+as_question (Ok nodes) = Ok (statement.Question (record { expression = nodes }))
+as_question (Err cause) = Err cause
+
+-- the types of the values that answer what a row asks for: a key is the text of any value
+abbrev pub types_asked : Asked → Types
+types_asked asked.Length = only one.Number
+types_asked asked.Count = only one.Number
+types_asked asked.Key = every
+
 module _ (read : List ℕ → Option Formula) where
   -- what sets a variable; one whose definition is malformed can't be set
   abbrev pub setting_made : Statics → Option Target → List ℕ → Result Statement SchemaCause
@@ -111,6 +123,7 @@ module _ (read : List ℕ → Option Formula) where
   made s (source.Test text discriminates message) = as_test discriminates message (expression read s (only one.Truth) text)
   made s (source.Setting variable text) = setting_made s variable text
   made s (source.Calculation kind text) = as_calculation kind (expression read s (only (type_of kind)) text)
+  made s (source.Question asked text) = as_question (expression read s (types_asked asked) text)
 
 -- an expression that nothing asks for
 abbrev pub never_asked : List Node
@@ -123,6 +136,7 @@ unused (source.Test text discriminates message) =
     statement.Expression (record { expression = never_asked; discriminates = discriminates; message = message })
 unused (source.Setting variable text) = statement.Expression (record { expression = never_asked; discriminates = false; message = None })
 unused (source.Calculation kind text) = statement.Calculation (record { kind = kind; expression = never_asked })
+unused (source.Question asked text) = statement.Question (record { expression = never_asked })
 
 -- what calculates a value of a type
 abbrev pub IsCalculationOf : Simple → Statement → Type 0
@@ -130,13 +144,23 @@ IsCalculationOf kind (statement.Calculation c) = c.kind ≡ kind
 IsCalculationOf kind (statement.Pattern test) = ⊥
 IsCalculationOf kind (statement.Expression test) = ⊥
 IsCalculationOf kind (statement.Setting setting) = ⊥
+IsCalculationOf kind (statement.Question question) = ⊥
 
--- of a calculation that is written a statement is one, of the same type
+-- what a row asks for
+abbrev pub IsQuestion : Statement → Type 0
+IsQuestion (statement.Question question) = Unit {0}
+IsQuestion (statement.Pattern test) = ⊥
+IsQuestion (statement.Expression test) = ⊥
+IsQuestion (statement.Setting setting) = ⊥
+IsQuestion (statement.Calculation calculation) = ⊥
+
+-- of a calculation that is written a statement is one, of the same type, and of a question a question
 abbrev pub IsOfSource : Source → Statement → Type 0
 IsOfSource (source.Pattern test) s = Unit {0}
 IsOfSource (source.Test text discriminates message) s = Unit {0}
 IsOfSource (source.Setting variable text) s = Unit {0}
 IsOfSource (source.Calculation kind text) s = IsCalculationOf kind s
+IsOfSource (source.Question asked text) s = IsQuestion s
 
 abbrev pub IsMadeOf : Written → Statement → Type 0
 IsMadeOf written s = IsOfSource written.source s

@@ -5,12 +5,14 @@ use Rattle.dfdl_expression_types.specs.declared.statics.Place.{Place}
 use Rattle.dfdl_expression_types.specs.declared.statics.Place.TheVariants.{Above, At, Inside}
 use Rattle.dfdl_terms.specs.declared.row.Row.{Row}
 use Rattle.dfdl_terms.specs.declared.row.Row.TheVariants.{Elem, Concluded}
+use Rattle.dfdl_statements.specs.declared.written.Asked.{Asked}
+use Rattle.dfdl_statements.specs.declared.written.Asked.TheVariants.{Length, Count, Key}
 use Rattle.dfdl_statements.specs.declared.written.Source.{Source}
-use Rattle.dfdl_statements.specs.declared.written.Source.TheVariants.{Calculation}
+use Rattle.dfdl_statements.specs.declared.written.Source.TheVariants.{Pattern, Test, Setting, Calculation, Question}
 use Rattle.dfdl_statements.specs.declared.written.Written.{Written}
 use Rattle.dfdl_statements.specs.declared.standing.Opening.{Opening}
 use Rattle.dfdl_statements.specs.declared.standing.Standing.{Standing}
-use Rattle.dfdl_statements.specs.Children.{group_in, statement_in}
+use Rattle.dfdl_statements.specs.Children.{group_in, question_in, statement_in}
 use Rattle.dfdl_statements.specs.Elements.{turned}
 
 abbrev pub standing_of : ℕ → Place → Standing
@@ -31,11 +33,21 @@ abbrev pub in_element : Option ℕ → Place
 in_element None = Above
 in_element (Some element) = Inside element
 
+-- where a question stands: that of a length at the element that is so long, others inside of the element around
+abbrev pub question_place : Asked → Option ℕ → Place
+question_place Length around = at_element around
+question_place Count around = in_element around
+question_place Key around = in_element around
+
 abbrev pub source_place : Source → Option ℕ → Place
 source_place (Calculation kind text) around = at_element around
-source_place _ around = in_element around
+source_place (Question asked text) around = question_place asked around
+source_place (Pattern test) around = in_element around
+source_place (Test text discriminates message) around = in_element around
+source_place (Setting variable text) around = in_element around
 
--- where a statement stands that is a row of its own, by the element around it: what calculates a value at the element, others inside of it
+-- Where a statement stands that is done by a row of its own, by the element around it: what calculates a value and what asks for a length at the
+-- element, others inside of it.
 abbrev pub row_place : Option Written → Option ℕ → Place
 row_place None around = in_element around
 row_place (Some written) around = source_place written.source around
@@ -57,7 +69,7 @@ module _ (rows : List Row) (written : List Written) (arounds : List (Option ℕ)
   stated_by row None = []
   stated_by row (Some statement) = standing_of statement (row_place (slice_get written statement) (around_at arounds row)) ∷ []
 
-  -- the statement that a row is, if it is one
+  -- the statement that a row is, or by which it asks for its length, if there is one
   abbrev pub stated : ℕ → List Standing
   stated row = stated_by row (statement_in (slice_get rows row))
 
@@ -69,11 +81,15 @@ module _ (rows : List Row) (written : List Written) (arounds : List (Option ℕ)
   abbrev pub grouped : ℕ → List Standing
   grouped row = grouped_by row (group_in (slice_get rows row))
 
+  -- what a row asks for that is a choice, or that repeats an element
+  abbrev pub asked : ℕ → List Standing
+  asked row = stated_by row (question_in (slice_get rows row))
+
   abbrev pub standings_by : ℕ → Option Opening → List Standing
-  standings_by row None = grouped row
+  standings_by row None = grouped row ++ asked row
   standings_by row (Some o) = standings_from o.behind.first o.behind.count o.place ++ grouped o.body
 
   -- The statements that a component begins with at a row: those behind an element, a sequence or a choice, and with them those of the group
-  -- right inside.
+  -- right inside. A count or a key is looked at by itself.
   abbrev pub standings : ℕ → List Standing
   standings row = standings_by row (opening_in (length rows) arounds row (slice_get rows row))

@@ -1,5 +1,6 @@
 //! The statements of a schema's rows: their expressions compiled, and checked wherever they stand ('DFDL Schema Component Model', on
-//! asserts, discriminators and variables; 'DFDL Expression Language'; 'Calculated Values').
+//! asserts, discriminators and variables; 'DFDL Expression Language'; 'Calculated Values'). What a row asks for, as a length, is a
+//! statement, too ('Lengths', 'Arrays and Optional Elements', 'Choices').
 //!
 //! `declare` gives the elements of rows as paths see them, and the numbers of their names. `settle` makes the statements of what the
 //! schema wrote, or tells which is refused. `specs/Making.antt` says what is made of one where it stands, `specs/Standing.antt` where
@@ -25,4 +26,4 @@ pub use declaring::{Declared, declare};
 pub use fault::{Refusal, StatementFault};
 pub use settling::settle;
 pub use sight::Sight;
-pub use written::{Source, Target, Written};
+pub use written::{Asked, Source, Target, Written};

@@ -12,15 +12,15 @@ ghost use Rattle.dfdl_statements.specs.MakingShown.{Gives};
 
 use crate::braces::unbraced;
 use crate::fault::Fault;
-use crate::written::{Source, Target};
+use crate::written::{Asked, Source, Target};
 use dfdl_expression_compile::{Resolved, resolve};
 use dfdl_expression_tree::laws::a_text_has_one_tree;
 use dfdl_expression_tree::{ExpressionFault, Tree, parse};
 use dfdl_expression_types::{Statics, TypeFault, Types, ValueType};
-use dfdl_expressions::{Expression, Node, Question, build};
+use dfdl_expressions::{Expression, Node, Question as NodeQuestion, build};
 use dfdl_report::SchemaCause;
 use dfdl_scope::{is_expression, literal};
-use dfdl_terms::{Calculation, ExpressionTest, Setting, Statement};
+use dfdl_terms::{Calculation, ExpressionTest, Question, Setting, Statement};
 use dfdl_value::{ReadFault, Simple, TextValue, Value};
 use std::alloc::{AllocError, Global};
 
@@ -34,12 +34,13 @@ fn asks_length(node: &Node) -> bool
     }
 }
 
-fn is_length(question: Question) -> bool
+fn is_length(question: NodeQuestion) -> bool
     ensures { result ≡ making.is_length question }
 {
     match question {
-        Question::Length(_, _) => true,
-        Question::Item | Question::Count | Question::Exists | Question::Empty => false,
+        NodeQuestion::Length(_, _) => true,
+        NodeQuestion::Item | NodeQuestion::Count | NodeQuestion::Exists | NodeQuestion::Empty =>
+            false,
     }
 }
 
@@ -247,6 +248,28 @@ fn calculation_of(found: Result<Expression, Fault>, kind: Simple) -> Result<Stat
     }
 }
 
+// What a row asks for.
+fn question_of(found: Result<Expression, Fault>) -> Result<Statement, Fault>
+    ensures answer { (due : making.Nodes) → Gives due found → Gives (making.as_question due) result }
+    ensures kind { IfOk result making.IsQuestion }
+{
+    match found {
+        Ok(expression) => Ok(Statement::Question(Question { expression })),
+        Err(fault) => Err(fault),
+    }
+}
+
+// The types of the values that answer what a row asks for.
+fn types_asked(asked: Asked) -> Types
+    ensures { result ≡ making.types_asked asked }
+{
+    match asked {
+        Asked::Length => Types::only(ValueType::Number),
+        Asked::Count => Types::only(ValueType::Number),
+        Asked::Key => Types::every(),
+    }
+}
+
 // What sets a variable, if there is one.
 fn setting_made(
     alloc: Global,
@@ -284,6 +307,10 @@ pub(crate) fn make(alloc: Global, statics: &Statics<'_>, source: Source) -> Resu
             let found = expression(alloc, statics, wanted, text.as_str());
             calculation_of(found, kind)
         }
+        Source::Question { asked, text } => {
+            let found = expression(alloc, statics, types_asked(asked), text.as_str());
+            question_of(found)
+        }
     }
 }
 
@@ -308,6 +335,7 @@ pub(crate) fn unused(alloc: Global, source: Source) -> Result<Statement, Fault>
         } => test_of(never_asked(alloc), discriminates, message),
         Source::Setting { .. } => test_of(never_asked(alloc), false, None),
         Source::Calculation { kind, .. } => calculation_of(never_asked(alloc), kind),
+        Source::Question { .. } => question_of(never_asked(alloc)),
     }
 }
 
@@ -369,5 +397,11 @@ pub(crate) fn judge(
             let wanted = Types::only(ValueType::of(*kind));
             told(expression(alloc, statics, wanted, text.as_str()))
         }
+        Source::Question { asked, text } => told(expression(
+            alloc,
+            statics,
+            types_asked(*asked),
+            text.as_str(),
+        )),
     }
 }

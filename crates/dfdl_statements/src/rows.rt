@@ -2,7 +2,7 @@
 ghost use Rattle.std.specs.Prelude.{◌≡◌, IfOk, Some, map, option_copied, slice_get};
 ghost use Rattle.dfdl_statements.specs.Children as children;
 
-use dfdl_terms::{Row, RowId, RowList, Slot};
+use dfdl_terms::{Key, Row, RowId, RowList, Slot};
 use dfdl_value::Simple;
 use std::alloc::{AllocError, Global};
 
@@ -24,6 +24,17 @@ fn bodies(alloc: Global, slots: &[Slot]) -> Result<RowList, AllocError>
     Ok(RowList::new(rows))
 }
 
+// The rows of keys.
+fn keyed(alloc: Global, keys: &[Key]) -> Result<RowList, AllocError>
+    ensures { IfOk result (λ l. l ≡ map (λ key. key.body) keys.now) }
+{
+    let mut rows = Vec::new(alloc);
+    for key in keys {
+        rows.push(key.body)?;
+    }
+    Ok(RowList::new(rows))
+}
+
 /// The rows right inside of a row, in schema order.
 pub(crate) fn children_of(alloc: Global, row: &Row) -> Result<RowList, AllocError>
     ensures { IfOk result (λ l. l ≡ children.children_of row.now) }
@@ -34,9 +45,12 @@ pub(crate) fn children_of(alloc: Global, row: &Row) -> Result<RowList, AllocErro
         Row::Scope { body, .. } => listed(alloc, &[*body]),
         Row::Boxed { body, .. } => listed(alloc, &[*body]),
         Row::PrefixedBox { body, .. } => listed(alloc, &[*body]),
+        Row::MeasuredBox { body, .. } => listed(alloc, &[*body]),
         Row::Repeat { body, .. } => listed(alloc, &[*body]),
+        Row::Counted { body, .. } => listed(alloc, &[*body]),
         Row::Optional { body, .. } => listed(alloc, &[*body]),
         Row::Choice { branches, .. } => listed(alloc, branches.as_slice()),
+        Row::Dispatch { keys, .. } => keyed(alloc, keys.as_slice()),
         Row::Concluded { body, .. } => listed(alloc, &[*body]),
         Row::Hidden { body } => listed(alloc, &[*body]),
         Row::Separated { slots, .. } => bodies(alloc, slots.as_slice()),
@@ -47,6 +61,7 @@ pub(crate) fn children_of(alloc: Global, row: &Row) -> Result<RowList, AllocErro
         Row::Terminator { .. } => listed(alloc, &[]),
         Row::Separator => listed(alloc, &[]),
         Row::PrefixedLeaf { .. } => listed(alloc, &[]),
+        Row::MeasuredLeaf { .. } => listed(alloc, &[]),
         Row::Statement { .. } => listed(alloc, &[]),
     }
 }
@@ -81,7 +96,7 @@ pub(crate) fn simple_of(row: &Row) -> Option<Simple>
     }
 }
 
-/// The statement that the row of a number is.
+/// The statement that the row of a number is, or by which it asks for its length.
 pub(crate) fn statement_at(rows: &[Row], row: RowId) -> Option<u32>
     ensures { result ≡ children.statement_in (slice_get rows.now row) }
 {
@@ -96,6 +111,28 @@ fn statement_of(row: &Row) -> Option<u32>
 {
     match row {
         Row::Statement { statement } => Some(*statement),
+        Row::MeasuredLeaf { measure, .. } => Some(measure.question),
+        Row::MeasuredBox { measure, .. } => Some(measure.question),
+        _ => None,
+    }
+}
+
+/// The statement by which the row of a number asks how often what is in it occurs, or which branch is taken.
+pub(crate) fn question_at(rows: &[Row], row: RowId) -> Option<u32>
+    ensures { result ≡ children.question_in (slice_get rows.now row) }
+{
+    match rows.get(row.number() as usize) {
+        Some(row) => question_of(row),
+        None => None,
+    }
+}
+
+fn question_of(row: &Row) -> Option<u32>
+    ensures { result ≡ children.question_in (Some row.now) }
+{
+    match row {
+        Row::Counted { question, .. } => Some(*question),
+        Row::Dispatch { question, .. } => Some(*question),
         _ => None,
     }
 }

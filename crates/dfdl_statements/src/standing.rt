@@ -3,8 +3,8 @@ ghost use Rattle.std.specs.Prelude.{◌≡◌, ◌<◌, ◌++◌, ◌∷◌, [],
 ghost use Rattle.std.specs.List.{flat_map};
 ghost use Rattle.dfdl_statements.specs.Standing as spec;
 
-use crate::rows::{group_at, statement_at};
-use crate::written::{Source, Written};
+use crate::rows::{group_at, question_at, statement_at};
+use crate::written::{Asked, Source, Written};
 use dfdl_expression_types::Place;
 use dfdl_terms::{Row, RowId, Statements};
 use std::alloc::AllocError;
@@ -60,16 +60,29 @@ fn in_element(around: Option<usize>) -> Place
     }
 }
 
+fn question_place(asked: Asked, around: Option<usize>) -> Place
+    ensures { result ≡ spec.question_place asked around }
+{
+    match asked {
+        Asked::Length => at_element(around),
+        Asked::Count => in_element(around),
+        Asked::Key => in_element(around),
+    }
+}
+
 fn source_place(source: &Source, around: Option<usize>) -> Place
     ensures { result ≡ spec.source_place source.now around }
 {
     match source {
         Source::Calculation { .. } => at_element(around),
-        _ => in_element(around),
+        Source::Question { asked, .. } => question_place(*asked, around),
+        Source::Pattern(_) => in_element(around),
+        Source::Test { .. } => in_element(around),
+        Source::Setting { .. } => in_element(around),
     }
 }
 
-// Where a statement stands that is a row of its own.
+// Where a statement stands that is done by a row of its own.
 fn row_place(written: &[Written<'_>], statement: u32, around: Option<usize>) -> Place
     ensures { result ≡ spec.row_place (slice_get written.now statement) around }
 {
@@ -129,7 +142,7 @@ fn push_all(
 }
 
 impl<'r, 'w> Scene<'r, 'w> {
-    // The statement that a row is, if it is one.
+    // The statement that a row is, or by which it asks for its length, if there is one.
     fn push_stated(&self, list: &mut Vec<Standing>, row: RowId) -> Result<(), AllocError>
         ensures { OnOk result (list.new.items ≡ list.old.items ++ spec.stated self.now.rows.now self.now.written.now self.now.arounds.now row) }
     {
@@ -162,6 +175,29 @@ impl<'r, 'w> Scene<'r, 'w> {
         }
     }
 
+    // What a row asks for that is a choice, or that repeats an element.
+    fn push_asked(&self, list: &mut Vec<Standing>, row: RowId) -> Result<(), AllocError>
+        ensures { OnOk result (list.new.items ≡ list.old.items ++ spec.asked self.now.rows.now self.now.written.now self.now.arounds.now row) }
+    {
+        match question_at(self.rows, row) {
+            Some(question) => {
+                let place = row_place(self.written, question, around_at(self.arounds, row));
+                push(list, question as usize, place)
+            }
+            None => Ok(()),
+        }
+    }
+
+    // The statements of a row that opens nothing.
+    fn push_own(&self, list: &mut Vec<Standing>, row: RowId) -> Result<(), AllocError>
+        ensures { OnOk result (list.new.items ≡ list.old.items
+            ++ (spec.grouped self.now.rows.now self.now.written.now self.now.arounds.now row
+            ++ spec.asked self.now.rows.now self.now.written.now self.now.arounds.now row)) }
+    {
+        self.push_grouped(list, row)?;
+        self.push_asked(list, row)
+    }
+
     // The statements behind an element, a sequence or a choice, and those of the group right inside.
     fn push_opened(&self, list: &mut Vec<Standing>, opening: Opening) -> Result<(), AllocError>
         ensures { OnOk result (list.new.items ≡ list.old.items
@@ -185,7 +221,7 @@ impl<'r, 'w> Scene<'r, 'w> {
     {
         match opening_of(self.rows.len(), self.arounds, id, row) {
             Some(opening) => self.push_opened(list, opening),
-            None => self.push_grouped(list, id),
+            None => self.push_own(list, id),
         }
     }
 }

@@ -3,10 +3,12 @@
 
 ghost use Rattle.std.specs.Prelude.{◌≡◌, ◌<◌, ◌^◌, IfOk, length};
 
-use crate::{Sight, Source, StatementFault, Target, Written, declare, settle};
+use crate::{Asked, Sight, Source, StatementFault, Target, Written, declare, settle};
 use dfdl_expression_types::Variable;
 use dfdl_report::Place;
-use dfdl_terms::{Representations, Row, RowId, RowList, Statement, Statements};
+use dfdl_terms::{
+    LengthUnit, Measure, Representations, Row, RowId, RowList, Statement, Statements,
+};
 use dfdl_value::{Simple, TextValue};
 use std::alloc::{AllocError, Global};
 use std::collections::BTreeMap;
@@ -228,5 +230,63 @@ fn statements_without_a_row_are_never_refused(rt: HostRuntime) -> Result<(), Fai
     let alloc = rt.alloc();
     assert!(&rt; one_is_refused(alloc, "{ . gt 0 }", "{ ../y gt }", 0, 0)?);
     assert!(&rt; one_is_refused(alloc, "{ y gt 0 }", "{ . gt 0 }", 36, 1)?);
+    Ok(())
+}
+
+// r has so many x as a count tells, and each x is so long as a length tells.
+fn asking_rows(alloc: Global) -> Result<Vec<Row>, AllocError>
+    ensures { IfOk result (λ all. length all.items ≡ 4) }
+{
+    let measure = Measure {
+        question: 1,
+        unit: LengthUnit::Bytes,
+    };
+    let body = RowId::new(1);
+    let mut all = Vec::new(alloc);
+    all.push(Row::MeasuredLeaf { measure, prim: 0 })?;
+    all.push(element(alloc, "x", Some(Simple::Int), 0, 0)?)?;
+    all.push(Row::Counted { question: 2, body })?;
+    all.push(element(alloc, "r", None, 3, 2)?)?;
+    Ok(all)
+}
+
+fn question(alloc: Global, asked: Asked, text: &str) -> Result<Source, AllocError> {
+    Ok(Source::Question {
+        asked,
+        text: TextValue::from_str(alloc, text)?,
+    })
+}
+
+// What a length and a count come to.
+fn told_of_questions(alloc: Global, length: &str, count: &str) -> Result<Answer, AllocError> {
+    let prefixes = BTreeMap::new(alloc);
+    let rows = asking_rows(alloc)?;
+    let mut all = Vec::new(alloc);
+    all.push(written(test(alloc, "{ . gt 0 }")?, 1, &prefixes))?;
+    all.push(written(question(alloc, Asked::Length, length)?, 2, &prefixes))?;
+    all.push(written(question(alloc, Asked::Count, count)?, 3, &prefixes))?;
+    all.push(written(test(alloc, "{ x gt 0 }")?, 4, &prefixes))?;
+    settled(alloc, rows.as_slice(), all)
+}
+
+fn questions_come_to(
+    alloc: Global,
+    length: &str,
+    count: &str,
+    cause: u8,
+    at: u64,
+) -> Result<bool, AllocError> {
+    let told = told_of_questions(alloc, length, count)?;
+    Ok(told.cause == cause && told.at == at)
+}
+
+#[test]
+fn questions_are_made_or_refused(rt: HostRuntime) -> Result<(), Fail> {
+    let alloc = rt.alloc();
+    assert!(&rt; questions_come_to(alloc, "{ . }", "{ 2 }", 0, 0)?);
+    assert!(&rt; questions_come_to(alloc, "{ 'a' }", "{ ../x }", 35, 2)?);
+    assert!(&rt; questions_come_to(alloc, "{ ../x }", "{ x }", 36, 3)?);
+    assert!(&rt; questions_come_to(alloc, "{ 2 }", "2", 34, 3)?);
+    assert!(&rt; questions_come_to(alloc, "{ 2 gt }", "{ 'a' }", 35, 3)?);
     Ok(())
 }

@@ -12,7 +12,18 @@ pub struct Target {
     pub kind: Simple,
 }
 
-/// What a schema writes as a statement.
+/// What a row asks for.
+#[derive(Debug, Clone, Copy, PartialEq, Eq)]
+pub enum Asked {
+    /// How long a content is ('Lengths', lengthKind explicit).
+    Length,
+    /// How often an element occurs ('Arrays and Optional Elements', occursCountKind expression).
+    Count,
+    /// Which branch of a choice is taken ('Choices', choiceDispatchKey).
+    Key,
+}
+
+/// What a schema writes as a statement. The text of an expression has its braces.
 #[derive(Debug, Drop)]
 pub enum Source {
     /// A test of a pattern, which is ready.
@@ -33,6 +44,11 @@ pub enum Source {
     /// The value of an element that has no representation.
     Calculation {
         kind: Simple,
+        text: TextValue,
+    },
+    /// What a row asks for, by an expression.
+    Question {
+        asked: Asked,
         text: TextValue,
     },
 }

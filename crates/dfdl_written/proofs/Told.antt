@@ -10,7 +10,7 @@ use Rattle.dfdl_terms.specs.declared.statement.PatternTest.{PatternTest}
 use Rattle.dfdl_checks.specs.declared.expression_tests.CheckForm.{CheckForm}
 use Rattle.dfdl_breaches.specs.Judging.{IsCheckOf}
 use Rattle.dfdl_breaches.specs.Elements.{place_of}
-use Rattle.dfdl_written.specs.Noting.{IsNotedWithin, StatesWithin, noted_calculations, noted_check, noted_each, noted_from, noted_parts, noted_setting, noted_test}
+use Rattle.dfdl_written.specs.Noting.{IsNotedWithin, StatesWithin, noted_check, noted_each, noted_expressions, noted_from, noted_parts, noted_setting, noted_test}
 use Rattle.dfdl_written.specs.declared.noted.Noted.{Noted}
 use Rattle.dfdl_written.specs.declared.noted.Stated.{Stated}
 
@@ -43,28 +43,32 @@ three_pushed old first second third a b c first_is second_is third_is =
     ∙ (ap (λ (xs : List Noted). xs ++ c) (second_is ∙ ap (λ (xs : List Noted). xs ++ b) first_is)
     ∙ (append_assoc (old ++ a) b c ∙ append_assoc old a (b ++ c)))
 
--- the calculation of a value behind what stands before it
-pub calculation_behind : (documents : List SchemaDocument) (own : Site) (stated : Stated) (old parts new : List Noted)
+-- each of three lists one after the other
+pub three_within : {X : Type 0} (P : X → Type 0) (a b c : List X) → All P a → All P b → All P c → All P (a ++ (b ++ c))
+three_within P a b c first second third = All-append P a (b ++ c) first (All-append P b c second third)
+
+-- the expressions that are properties behind what stands before them
+pub expressions_behind : (documents : List SchemaDocument) (own : Site) (stated : Stated) (old parts new : List Noted)
     → parts ≡ old ++ noted_parts documents (place_of documents own) own stated.tests stated.settings stated.checks
-    → new ≡ parts ++ noted_calculations documents (place_of documents own) own stated.calculation → new ≡ old ++ noted_from documents own stated
-calculation_behind documents own stated old parts new parts_is new_is =
+    → new ≡ parts ++ noted_expressions documents (place_of documents own) own stated.calculation stated.measure stated.count → new ≡ old ++ noted_from documents own stated
+expressions_behind documents own stated old parts new parts_is new_is =
     new_is
-    ∙ (ap (λ (xs : List Noted). xs ++ noted_calculations documents (place_of documents own) own stated.calculation) parts_is
+    ∙ (ap (λ (xs : List Noted). xs ++ noted_expressions documents (place_of documents own) own stated.calculation stated.measure stated.count) parts_is
     ∙ append_assoc old (noted_parts documents (place_of documents own) own stated.tests stated.settings stated.checks)
-    (noted_calculations documents (place_of documents own) own stated.calculation))
+    (noted_expressions documents (place_of documents own) own stated.calculation stated.measure stated.count))
 
 -- those so far with those of one component more
 pub more_within : (documents : List SchemaDocument) (place : Place) (own : Site) (stated : Stated) (old parts new : List Noted)
     → parts ≡ old ++ noted_parts documents place own stated.tests stated.settings stated.checks
-    → new ≡ parts ++ noted_calculations documents place own stated.calculation
+    → new ≡ parts ++ noted_expressions documents place own stated.calculation stated.measure stated.count
     → IsSite documents own → StatesWithin documents stated → All (IsNotedWithin documents) old
-    → All (IsNotedWithin documents) (noted_calculations documents place own stated.calculation) → All (IsNotedWithin documents) new
-more_within documents place own stated old parts new parts_is new_is within stated_within all calculated =
+    → All (IsNotedWithin documents) (noted_expressions documents place own stated.calculation stated.measure stated.count) → All (IsNotedWithin documents) new
+more_within documents place own stated old parts new parts_is new_is within stated_within all expressed =
     subst (λ (xs : List Noted). All (IsNotedWithin documents) xs) (sym new_is)
-    (All-append (IsNotedWithin documents) parts (noted_calculations documents place own stated.calculation)
+    (All-append (IsNotedWithin documents) parts (noted_expressions documents place own stated.calculation stated.measure stated.count)
     (subst (λ (xs : List Noted). All (IsNotedWithin documents) xs) (sym parts_is)
     (All-append (IsNotedWithin documents) old (noted_parts documents place own stated.tests stated.settings stated.checks) all
-    (parts_within documents place own stated.tests stated.settings stated.checks within stated_within.settings stated_within.checks))) calculated)
+    (parts_within documents place own stated.tests stated.settings stated.checks within stated_within.settings stated_within.checks))) expressed)
 
 -- before the first
 pub each_begin : (documents : List SchemaDocument) (sites : List Site) (stated left : List Stated) (made : List Noted) → made ≡ [] → left ≡ stated

@@ -1,6 +1,7 @@
 -- The statements of the documents as they are written: of each component the tests of patterns, the elements that set variables, the
--- tests of expressions, and the calculation of its value ('DFDL Schema Component Model', on asserts and discriminators; 'Syntax of DFDL
--- Annotation Elements', on setVariable; 'Calculated Values').
+-- tests of expressions, the calculation of its value, and the questions how long its content is and how often it occurs ('DFDL Schema
+-- Component Model', on asserts and discriminators; 'Syntax of DFDL Annotation Elements', on setVariable; 'Calculated Values'; 'Lengths', on
+-- lengthKind explicit; 'Arrays and Optional Elements', on occursCountKind expression).
 use Rattle.std.specs.Prelude.{◌≡◌, ℕ, List, [], ◌∷◌, ◌++◌, All, map, slice_get, Option, None, Some, option_map, unwrap_or, codes}
 use Rattle.std.specs.BTreeMap.{BTreeMap}
 use Rattle.std.specs.Prelude.{String}
@@ -15,6 +16,7 @@ use Rattle.dfdl_components.specs.Sites.{IsSite}
 use Rattle.dfdl_components.specs.declared.site.Site.{Site}
 use Rattle.dfdl_terms.specs.declared.statement.PatternTest.{PatternTest}
 use Rattle.dfdl_checks.specs.declared.expression_tests.CheckForm.{CheckForm}
+use Rattle.dfdl_checks.specs.declared.measures.MeasureForm.{MeasureForm}
 use Rattle.dfdl_checks.specs.Subjects.{simple_of}
 use Rattle.dfdl_chains.specs.Chains.{chain_sites}
 use Rattle.dfdl_chains.specs.Declarations.{attribute_of}
@@ -24,6 +26,8 @@ use Rattle.dfdl_breaches.specs.declared.judgement.Judgement.{Judgement}
 use Rattle.dfdl_breaches.specs.Elements.{place_of}
 use Rattle.dfdl_breaches.specs.Judging.{IsCheckOf}
 use Rattle.dfdl_references.specs.Writers.{writer_of}
+use Rattle.dfdl_statements.specs.declared.written.Asked.{Asked}
+use Rattle.dfdl_statements.specs.declared.written.Asked.TheVariants as asked
 use Rattle.dfdl_statements.specs.declared.written.Source.{Source}
 use Rattle.dfdl_statements.specs.declared.written.Source.TheVariants as source
 use Rattle.dfdl_statements.specs.declared.written.Target.{Target}
@@ -76,21 +80,44 @@ noted_setting documents place own = noted_with place own (source.Setting (target
 abbrev pub calculated_type : List SchemaDocument → Site → Simple
 calculated_type documents own = unwrap_or (simple_of (kind_at documents own)) UnsignedByte
 
--- where the expression of a calculated value is written
-abbrev pub calculation_site : List SchemaDocument → Site → Site
-calculation_site documents own = unwrap_or (writer_of documents (chain_sites documents own) (codes "inputValueCalc")) own
+-- where the expression is written that is a property of a component
+abbrev pub expression_site : List SchemaDocument → List ℕ → Site → Site
+expression_site documents name own = unwrap_or (writer_of documents (chain_sites documents own) name) own
 
 -- the calculation of the value of a component
 abbrev pub noted_calculation : List SchemaDocument → Place → Site → List ℕ → Noted
 noted_calculation documents place own text =
-    noted_with place (calculation_site documents own) (source.Calculation (calculated_type documents own) text)
+    noted_with place (expression_site documents (codes "inputValueCalc") own) (source.Calculation (calculated_type documents own) text)
 
--- the same, where its value is calculated
-abbrev pub noted_calculations : List SchemaDocument → Place → Site → Option (List ℕ) → List Noted
-noted_calculations documents place own None = []
-noted_calculations documents place own (Some text) = noted_calculation documents place own text ∷ []
+-- the property whose expression is asked
+abbrev pub property_asked : Asked → List ℕ
+property_asked asked.Length = codes "length"
+property_asked asked.Count = codes "occursCount"
+property_asked asked.Key = codes "choiceDispatchKey"
 
--- the statements before the calculation of a value, of a component that begins at this place
+-- a question that a row of the component asks
+abbrev pub noted_question : List SchemaDocument → Place → Site → Asked → List ℕ → Noted
+noted_question documents place own question text =
+    noted_with place (expression_site documents (property_asked question) own) (source.Question question text)
+
+-- what is noted of an expression, where there is one
+abbrev pub noted_if : (List ℕ → Noted) → Option (List ℕ) → List Noted
+noted_if noted None = []
+noted_if noted (Some text) = noted text ∷ []
+
+-- the expression of a length
+abbrev pub length_text : MeasureForm → List ℕ
+length_text measure = measure.text
+
+-- the expressions that are properties of a component that begins at this place: the calculation of its value, and the questions how long
+-- its content is and how often it occurs
+abbrev pub noted_expressions : List SchemaDocument → Place → Site → Option (List ℕ) → Option MeasureForm → Option (List ℕ) → List Noted
+noted_expressions documents place own calculation measure count =
+    noted_if (noted_calculation documents place own) calculation
+    ++ (noted_if (noted_question documents place own asked.Length) (option_map length_text measure)
+    ++ noted_if (noted_question documents place own asked.Count) count)
+
+-- the statements before these, of a component that begins at this place
 abbrev pub noted_parts : List SchemaDocument → Place → Site → List PatternTest → List Site → List CheckForm → List Noted
 noted_parts documents place own tests settings checks =
     map (noted_test place own) tests ++ (map (noted_setting documents place) settings ++ map (noted_check place) checks)
@@ -102,13 +129,15 @@ stated_by judgement = record {
   settings = judgement.settings;
   checks = judgement.checks;
   calculation = judgement.calculation;
+  measure = judgement.measure;
+  count = judgement.count;
 }
 
 -- the statements of a component that states this
 abbrev pub noted_from : List SchemaDocument → Site → Stated → List Noted
 noted_from documents own stated =
     noted_parts documents (place_of documents own) own stated.tests stated.settings stated.checks
-    ++ noted_calculations documents (place_of documents own) own stated.calculation
+    ++ noted_expressions documents (place_of documents own) own stated.calculation stated.measure stated.count
 
 -- the statements of a component of which this is told
 abbrev pub noted_by : List SchemaDocument → Site → Judgement → List Noted

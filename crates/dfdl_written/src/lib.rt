@@ -1,11 +1,13 @@
-//! The statements of a schema as its documents write them, the calculations of values among them: where each stands, its text, the
-//! prefixes in scope there, and the variables that it may name ('DFDL Schema Component Model', on asserts, discriminators and variables;
-//! 'Calculated Values'; 'Namespaces in XML 1.0').
+//! The statements of a schema as its documents write them, the calculations of values and the questions of lengths and of numbers of
+//! occurrences among them: where each stands, its text, the prefixes in scope there, and the variables that it may name ('DFDL Schema
+//! Component Model', on asserts, discriminators and variables; 'Calculated Values'; 'Lengths'; 'Arrays and Optional Elements';
+//! 'Namespaces in XML 1.0').
 //!
 //! Contracts cite `specs/Prefixes.antt`, `specs/Variables.antt` and `specs/Noting.antt`.
 #![tactic(auto)]
 
 mod calculating;
+mod expressions;
 mod names;
 mod noted;
 mod noting;

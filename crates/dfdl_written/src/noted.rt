@@ -1,4 +1,5 @@
 use dfdl_breaches::{CheckList, SettingList, TestList};
+use dfdl_checks::MeasureForm;
 use dfdl_components::Site;
 use dfdl_report::Place;
 use dfdl_statements::Source;
@@ -14,12 +15,14 @@ pub struct Noted {
     pub site: Site,
 }
 
-/// What a component states: its tests of patterns, what sets variables, its tests of expressions, and the expression by which its value
-/// is calculated, if it is.
+/// What a component states: its tests of patterns, what sets variables, its tests of expressions, and the expressions by which its value
+/// is calculated, and how long its content is and how often it occurs are told, if they are.
 #[derive(Debug, Drop)]
 pub struct Stated {
     pub tests: TestList,
     pub settings: SettingList,
     pub checks: CheckList,
     pub calculation: Option<TextValue>,
+    pub measure: Option<MeasureForm>,
+    pub count: Option<TextValue>,
 }

@@ -1,11 +1,11 @@
 // The statements of components as documents write them.
-ghost use Rattle.std.specs.Prelude.{◌≡◌, ◌++◌, [], ◌∷◌, map, length, All, IfOk, OnOk, option_map};
+ghost use Rattle.std.specs.Prelude.{◌≡◌, ◌++◌, map, length, All, IfOk, OnOk, option_map};
 ghost use Rattle.dfdl_components.specs.Sites.{IsSite};
 ghost use Rattle.dfdl_chains.specs.Shown.{AreNumbers};
 ghost use Rattle.dfdl_variables.specs.Variables.{variables_of};
 ghost use Rattle.dfdl_written.specs.Noting as spec;
 
-use crate::calculating::{calculated_type, calculation_site};
+use crate::expressions::push_expressions;
 use crate::noted::{Noted, Stated};
 use crate::reading::{attribute, given_by, text_or_empty};
 use crate::variables::sound_type;
@@ -187,7 +187,7 @@ fn push_checks(
     Ok(())
 }
 
-// Adds the statements before the calculation of a value, of a component that begins at this place.
+// Adds the statements before the expressions that are properties, of a component that begins at this place.
 #[tactic(auto, using(crate::proofs::Told::three_pushed))]
 fn push_parts(
     alloc: Global,
@@ -220,53 +220,8 @@ fn push_parts(
     Ok(())
 }
 
-// Adds the calculation of the value of a component that begins at this place.
-fn push_calculation(
-    alloc: Global,
-    schema: &Schema,
-    numbers: &Numbers,
-    place: Place,
-    site: Site,
-    text: TextValue,
-    noted: &mut Vec<Noted>,
-) -> Result<(), AllocError>
-    requires site { IsSite schema.now site }
-    requires numbers { AreNumbers schema.now numbers.now }
-    ensures noted { OnOk result (noted.new.items ≡ noted.old.items ++ spec.noted_calculation schema.now place site text ∷ []) }
-    ensures within { OnOk result (IsSite schema.now (spec.calculation_site schema.now site)) }
-{
-    let kind = calculated_type(schema, numbers, site);
-    noted.push(Noted {
-        source: Source::Calculation { kind, text },
-        place,
-        site: calculation_site(alloc, schema, numbers, site)?,
-    })?;
-    Ok(())
-}
-
-// The same, where its value is calculated.
-fn push_calculations(
-    alloc: Global,
-    schema: &Schema,
-    numbers: &Numbers,
-    place: Place,
-    site: Site,
-    calculation: Option<TextValue>,
-    noted: &mut Vec<Noted>,
-) -> Result<(), AllocError>
-    requires site { IsSite schema.now site }
-    requires numbers { AreNumbers schema.now numbers.now }
-    ensures noted { OnOk result (noted.new.items ≡ noted.old.items ++ spec.noted_calculations schema.now place site calculation) }
-    ensures within { OnOk result (All (spec.IsNotedWithin schema.now) (spec.noted_calculations schema.now place site calculation)) }
-{
-    let Some(text) = calculation else {
-        return Ok(());
-    };
-    push_calculation(alloc, schema, numbers, place, site, text, noted)
-}
-
 // Adds the statements of a component.
-#[tactic(auto, using(crate::proofs::Told::calculation_behind))]
+#[tactic(auto, using(crate::proofs::Told::expressions_behind))]
 fn push_stated(
     alloc: Global,
     schema: &Schema,
@@ -289,12 +244,24 @@ fn push_stated(
         settings,
         checks,
         calculation,
+        measure,
+        count,
     } = stated;
     let place = schema.place(site);
     push_parts(
         alloc, schema, numbers, variables, place, site, tests, settings, checks, noted,
     )?;
-    push_calculations(alloc, schema, numbers, place, site, calculation, noted)?;
+    push_expressions(
+        alloc,
+        schema,
+        numbers,
+        place,
+        site,
+        calculation,
+        measure,
+        count,
+        noted,
+    )?;
     Ok(())
 }
 

@@ -23,3 +23,9 @@ returns-clause-initiated c = λ refused documents own. refl
 
 pub returns-clause-counted : goal.returns-clause-counted
 returns-clause-counted c = λ refused documents own. refl
+
+pub returns-clause-unmeasured : goal.returns-clause-unmeasured
+returns-clause-unmeasured c = λ refused documents own. refl
+
+pub returns-clause-uncounted : goal.returns-clause-uncounted
+returns-clause-uncounted c = λ refused documents own. refl

@@ -3,6 +3,7 @@ use Rattle.dfdl_checks.proofs.Alike.{same-component}
 use Rattle.dfdl_checks.specs.Boxes.{size_of_box}
 use Rattle.dfdl_checks.specs.Delimiters.{delimiters_of}
 use Rattle.dfdl_checks.specs.Framing.{framing_of}
+use Rattle.dfdl_checks.specs.Measures.{count_expression, measure_of}
 use Rattle.dfdl_checks.specs.Numbers.{primitive_of}
 use Rattle.dfdl_checks.specs.Occurrences.{occurrences_of}
 use Rattle.dfdl_checks.specs.Patterns.{length_pattern, pattern_encoding, pattern_prefix}
@@ -43,3 +44,9 @@ returns-clause-pattern c = λ a b alike. ap pattern_prefix (same-component a b a
 
 pub returns-clause-occurrences : goal.returns-clause-occurrences
 returns-clause-occurrences c = λ a b alike. ap occurrences_of (same-component a b alike)
+
+pub returns-clause-measure : goal.returns-clause-measure
+returns-clause-measure c = λ a b alike. ap measure_of (same-component a b alike)
+
+pub returns-clause-count : goal.returns-clause-count
+returns-clause-count c = λ a b alike. ap count_expression (same-component a b alike)

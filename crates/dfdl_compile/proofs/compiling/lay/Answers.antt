@@ -87,7 +87,7 @@ returns-in-Ok-clause-bare c = λ unparsing refused told.
     subst (λ (s : Schema). HaveBareLeaves s.components c.in-Ok.made.items) schema_is
     (c.in-Ok.ensures.bare (bare_components refused c.args.schema.now c.sound_elements_have_bounded_primitives.ensures.parsing
     c.statements_are_for_parsing.ensures.tests c.statements_are_for_parsing.ensures.checks c.statements_are_for_parsing.ensures.calculated c.statements_are_for_parsing.ensures.settings
-    c.statements_are_for_parsing.ensures.hidden c.args.purpose c.in_ok-components.components unparsing schema_is))
+    c.statements_are_for_parsing.ensures.hidden c.statements_are_for_parsing.ensures.unmeasured c.statements_are_for_parsing.ensures.uncounted c.args.purpose c.in_ok-components.components unparsing schema_is))
 
 pub returns-in-Ok-clause-plain : goal.returns-in-Ok-clause-plain
 returns-in-Ok-clause-plain c = λ unparsing.
@@ -96,4 +96,4 @@ returns-in-Ok-clause-plain c = λ unparsing.
     ∙ ap (λ (q : Purpose). components_of q refused c.args.schema.now) c.in_ok-gathered.ensures.purpose in
     c.in-Ok.ensures.plain (bare_components refused c.args.schema.now c.sound_elements_have_bounded_primitives.ensures.parsing
     c.statements_are_for_parsing.ensures.tests c.statements_are_for_parsing.ensures.checks c.statements_are_for_parsing.ensures.calculated c.statements_are_for_parsing.ensures.settings
-    c.statements_are_for_parsing.ensures.hidden c.args.purpose c.in_ok-components.components unparsing schema_is)
+    c.statements_are_for_parsing.ensures.hidden c.statements_are_for_parsing.ensures.unmeasured c.statements_are_for_parsing.ensures.uncounted c.args.purpose c.in_ok-components.components unparsing schema_is)

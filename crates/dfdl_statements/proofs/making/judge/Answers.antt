@@ -1,4 +1,4 @@
-use Rattle.dfdl_statements.proofs.Kinded.{calculation_told, set_told, test_told}
+use Rattle.dfdl_statements.proofs.Kinded.{calculation_told, question_told, set_told, test_told}
 use Rattle.dfdl_statements.proofs.making.judge.Goals as goal
 
 pub returns-in-Test : goal.returns-in-Test
@@ -17,3 +17,9 @@ returns-in-Calculation c = λ read reads.
     c.in-Calculation.kind c.of.result c.only-wanted-in-Calculation.result c.expression-in-Calculation.result c.in-Calculation.is
     c.as_str-in-Calculation.ensures c.only-wanted-in-Calculation.ensures c.of.ensures (c.expression-in-Calculation.ensures read reads)
     c.told-in-Calculation.ensures
+
+pub returns-in-Question : goal.returns-in-Question
+returns-in-Question c = λ read reads.
+    question_told read c.args.statics.now c.told-in-Question.result c.args.source.now c.in-Question.text c.as_str-in-Question.result.now c.in-Question.asked
+    c.types_asked.result c.expression-in-Question.result c.in-Question.is c.as_str-in-Question.ensures c.types_asked.ensures
+    (c.expression-in-Question.ensures read reads) c.told-in-Question.ensures

@@ -1,4 +1,4 @@
-use Rattle.dfdl_statements.proofs.Kinded.{calculation_made, set_made, test_made}
+use Rattle.dfdl_statements.proofs.Kinded.{calculation_made, question_made, set_made, test_made}
 use Rattle.dfdl_statements.proofs.making.make.Goals as goal
 
 pub returns-in-Test-clause-answer : goal.returns-in-Test-clause-answer
@@ -17,3 +17,9 @@ returns-in-Calculation-clause-answer c = λ read reads.
     c.in-Calculation.kind c.of.result c.only-wanted-in-Calculation.result c.expression-found-in-Calculation.result c.in-Calculation.is
     c.as_str-in-Calculation.ensures c.only-wanted-in-Calculation.ensures c.of.ensures (c.expression-found-in-Calculation.ensures read reads)
     c.calculation_of.ensures.answer
+
+pub returns-in-Question-clause-answer : goal.returns-in-Question-clause-answer
+returns-in-Question-clause-answer c = λ read reads.
+    question_made read c.args.statics.now c.question_of.result c.args.source c.in-Question.text c.as_str-in-Question.result.now c.in-Question.asked
+    c.types_asked.result c.expression-found-in-Question.result c.in-Question.is c.as_str-in-Question.ensures c.types_asked.ensures
+    (c.expression-found-in-Question.ensures read reads) c.question_of.ensures.answer

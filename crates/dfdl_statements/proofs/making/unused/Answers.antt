@@ -11,7 +11,12 @@ pub returns-in-Setting-clause-answer : goal.returns-in-Setting-clause-answer
 returns-in-Setting-clause-answer c =
     subst (λ o. Gives (Ok (unused o)) c.test_of-in-Setting.result) (sym c.in-Setting.is) (c.test_of-in-Setting.ensures (Ok never_asked) c.never_asked-in-Setting.ensures)
 
-pub returns-clause-answer : goal.returns-clause-answer
-returns-clause-answer c =
+pub returns-in-Calculation-clause-answer : goal.returns-in-Calculation-clause-answer
+returns-in-Calculation-clause-answer c =
     subst (λ o. Gives (Ok (unused o)) c.calculation_of.result) (sym c.in-Calculation.is)
     (c.calculation_of.ensures.answer (Ok never_asked) c.never_asked-in-Calculation.ensures)
+
+pub returns-clause-answer : goal.returns-clause-answer
+returns-clause-answer c =
+    subst (λ o. Gives (Ok (unused o)) c.question_of.result) (sym c.in-Question.is)
+    (c.question_of.ensures.answer (Ok never_asked) c.never_asked-in-Question.ensures)

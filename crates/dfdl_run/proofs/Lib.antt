@@ -1,3 +1,4 @@
+pub mod AskedStops
 pub mod Decisions
 pub mod Ends
 pub mod Excuses

@@ -12,7 +12,7 @@ use Rattle.dfdl_region.specs.Nodes.{with_content}
 use Rattle.dfdl_surroundings.specs.Taking.{taken, truth_taken}
 use Rattle.dfdl_terms.specs.Rows.{Table}
 use Rattle.dfdl_terms.specs.declared.statement.Statement.{Statement}
-use Rattle.dfdl_terms.specs.declared.statement.Statement.TheVariants.{Pattern, Expression, Setting, Calculation}
+use Rattle.dfdl_terms.specs.declared.statement.Statement.TheVariants.{Pattern, Expression, Setting, Calculation, Question}
 use Rattle.dfdl_terms.specs.declared.statement.Statements.{Statements}
 use Rattle.dfdl_grammar.specs.declared.end.End.{End}
 use Rattle.dfdl_grammar.specs.declared.end.End.TheVariants.{Done, Failed, Stopped}
@@ -87,6 +87,7 @@ stated-stops limits table start number (Some (Setting setting)) s =
     set-to-stops setting.variable (taken setting.kind (evaluated table start setting.expression s)) (with_reads table start setting.expression s)
 stated-stops limits table start number (Some (Calculation calculation)) s =
     calculated-stops limits (taken calculation.kind (evaluated table start calculation.expression s)) (with_reads table start calculation.expression s)
+stated-stops limits table start number (Some (Question question)) s = tt
 
 of-stops : (input : Input) (table : Table) (number : ℕ) (found : Option Statement) (s : State) → StopsByData (statement_of input table number found s).end
 of-stops input table number None s = tt
@@ -97,6 +98,8 @@ of-stops input table number (Some (Setting setting)) s =
     stated-stops input.limits table (start_of (Some (Setting setting)) s) number (Some (Setting setting)) s
 of-stops input table number (Some (Calculation calculation)) s =
     stated-stops input.limits table (start_of (Some (Calculation calculation)) s) number (Some (Calculation calculation)) s
+of-stops input table number (Some (Question question)) s =
+    stated-stops input.limits table (start_of (Some (Question question)) s) number (Some (Question question)) s
 
 pub statement-stops : (input : Input) (table : Table) (number : ℕ) (s : State) → StopsByData (statement input table number s).end
 statement-stops input table number s = of-stops input table number (slice_get table.statements number) s

@@ -1,7 +1,7 @@
 -- A document stops by a limit on data, or a variable that can't be set, alone.
 use Rattle.std.proofs.Common.{ℕ, zero, suc, ◌+◌, ◌-◌, ◌*◌, ◌/◌, nat_eq, nat_le, nat_lt, true, false, Bool, if◌then◌else◌, List, [], ◌∷◌, length, Option, None, Some, slice_get, replicate}
 use Rattle.dfdl_report.specs.declared.cause.LimitCause.TheVariants.{Nodes}
-use Rattle.dfdl_report.specs.declared.cause.ParseCause.TheVariants.{LengthOutOfRange}
+use Rattle.dfdl_report.specs.declared.cause.ParseCause.TheVariants.{LengthOutOfRange, NegativeCount}
 use Rattle.dfdl_looks.specs.Asks.{Reached, Told, TooFar, Missing, ask}
 use Rattle.dfdl_looks.specs.Looks.{seen_in}
 use Rattle.dfdl_looks.specs.Tallies.{needs_from, nothing}
@@ -12,7 +12,7 @@ use Rattle.dfdl_terms.specs.declared.row.Primitive.{Primitive}
 use Rattle.dfdl_terms.specs.declared.representations.Representations.{Representations}
 use Rattle.dfdl_terms.specs.declared.row.Row.{Row}
 use Rattle.dfdl_terms.specs.declared.text.TextSize.{TextSize}
-use Rattle.dfdl_terms.specs.declared.row.Row.TheVariants.{Leaf, Elem, Group, Skip, Align, Initiator, Terminator, Separator, Scope, Boxed, PrefixedLeaf, PrefixedBox, Repeat, Optional, Choice as ChoiceRow, Statement, Concluded, Hidden, Separated}
+use Rattle.dfdl_terms.specs.declared.row.Row.TheVariants.{Leaf, Elem, Group, Skip, Align, Initiator, Terminator, Separator, Scope, Boxed, PrefixedLeaf, PrefixedBox, MeasuredLeaf, MeasuredBox, Repeat, Counted, Optional, Choice as ChoiceRow, Dispatch, Statement, Concluded, Hidden, Separated}
 use Rattle.dfdl_grammar.specs.declared.end.End.{End}
 use Rattle.dfdl_grammar.specs.declared.end.End.TheVariants.{Done, Failed, Stopped}
 use Rattle.dfdl_grammar.specs.declared.end.Halt.TheVariants.{Limit}
@@ -34,8 +34,10 @@ use Rattle.dfdl_grammar.specs.Occurrences.{after_occurrence, dropped, occurrence
 use Rattle.dfdl_grammar.specs.Slots.{Sequence}
 use Rattle.dfdl_grammar.specs.Representations.{Attempt, after_empty, or_else, refuse, refused_among, represented, the_last, then_empty, then_nil, then_normal}
 use Rattle.dfdl_grammar.specs.Prefixes.{behind_prefix, bits_of_units, land_prefix, leaf_of, prefixed, resized, size_of, sized_leaf, units_told}
+use Rattle.dfdl_grammar.specs.Questions.{question_at}
 use Rattle.dfdl_grammar.specs.Rows.{below, group, meaning, row, row_at}
 use Rattle.dfdl_grammar.specs.Documents.{document}
+use Rattle.dfdl_run.proofs.AskedStops.{count-stops, key-stops}
 use Rattle.dfdl_run.proofs.Stopping.{StopsByData}
 use Rattle.dfdl_run.proofs.SlottedStops.{separated-stops}
 use Rattle.dfdl_run.proofs.SoughtStops.{initiator-stops, separator-stops, terminator-stops}
@@ -286,8 +288,13 @@ row-stops input table child each id (Some (Elem name simple tried behind body)) 
     (represented-stops tried (attempted input id (has_elements simple) (child body)) (attempted-stops input id (has_elements simple) (child body) (each body)) s)
 row-stops input table child each id (Some (Group children)) s = group-stops child each children s
 row-stops input table child each id (Some (Repeat count body)) s = group-stops child each (replicate count body) s
+row-stops input table child each id (Some (Counted question body)) s =
+    count-stops NegativeCount (λ count t. group child (replicate count body) t) (λ count t. group-stops child each (replicate count body) t)
+    table (Inside s.inside) (question_at table question) s
 row-stops input table child each id (Some (Optional most item initiated body)) s = occurrences-stop (child body) (each body) initiated most s
 row-stops input table child each id (Some (ChoiceRow ids initiated)) s = choice-stops child each initiated ids s
+row-stops input table child each id (Some (Dispatch question keys)) s =
+    key-stops child each table (Inside s.inside) keys (question_at table question) s
 row-stops input table child each id (Some (Statement number)) s = statement-stops input table number s
 row-stops input table child each id (Some (Concluded behind body)) s =
     concluded-stops input.limits table (Inside s.inside) behind (child body s) (each body s)
@@ -312,6 +319,14 @@ row-stops input table child each id (Some (PrefixedBox prefix body)) s =
     prefixed-stops input table.delimiters (slice_get table.primitives prefix.prim) prefix.own _
     (λ units t. boxed-stops input (bits_of_units prefix.unit units) (child body) (each body) t
     (nat_le (t.at + bits_of_units prefix.unit units) t.stop)) s
+row-stops input table child each id (Some (MeasuredLeaf measure prim)) s =
+    count-stops LengthOutOfRange _
+    (λ units t. sized-stops input table.delimiters (nil_values table.primitives s.instead) (slice_get table.primitives (read_by table.primitives s.instead prim))
+    (size_of measure.unit units) t) table (At s.inside) (question_at table measure.question) s
+row-stops input table child each id (Some (MeasuredBox measure body)) s =
+    count-stops LengthOutOfRange _
+    (λ units t. boxed-stops input (bits_of_units measure.unit units) (child body) (each body) t
+    (nat_le (t.at + bits_of_units measure.unit units) t.stop)) table (At s.inside) (question_at table measure.question) s
 
 below-stops : (input : Input) (table : Table) (n id : ℕ) (s : State) → StopsByData (below input table n id s).end
 unfolding below

@@ -9,7 +9,7 @@ use Rattle.dfdl_terms.specs.Rows.{Table}
 use Rattle.dfdl_terms.specs.declared.row.Primitive.{Primitive}
 use Rattle.dfdl_terms.specs.declared.row.Primitive.TheVariants.{Integer, Packed, Truth, Octets, Text, NilOctets, Default, NilValues, Pattern}
 use Rattle.dfdl_terms.specs.declared.row.Row.{Row}
-use Rattle.dfdl_terms.specs.declared.row.Row.TheVariants.{Leaf, Elem, Group, Skip, Align, Initiator, Terminator, Separator, Scope, Boxed, PrefixedLeaf, PrefixedBox, Repeat, Optional, Choice, Statement, Concluded, Hidden, Separated}
+use Rattle.dfdl_terms.specs.declared.row.Row.TheVariants.{Leaf, Elem, Group, Skip, Align, Initiator, Terminator, Separator, Scope, Boxed, PrefixedLeaf, PrefixedBox, MeasuredLeaf, MeasuredBox, Repeat, Counted, Optional, Choice, Dispatch, Statement, Concluded, Hidden, Separated}
 use Rattle.dfdl_checks.specs.Forms.{IsWhole, IsWholeUnsigned}
 use Rattle.dfdl_compile.specs.Primitives.{HasBareTypedLeaves, IsLeafOfType, IsOfType}
 use Rattle.dfdl_pieces.specs.Laying.{form_in, integer_form}
@@ -73,9 +73,13 @@ whole_row t wholes simple (Some (Scope list body)) leaf = absurd leaf
 whole_row t wholes simple (Some (Boxed bits body)) leaf = absurd leaf
 whole_row t wholes simple (Some (PrefixedLeaf prefix prim)) leaf = absurd leaf
 whole_row t wholes simple (Some (PrefixedBox prefix body)) leaf = absurd leaf
+whole_row t wholes simple (Some (MeasuredLeaf measure prim)) leaf = absurd leaf
+whole_row t wholes simple (Some (MeasuredBox measure body)) leaf = absurd leaf
 whole_row t wholes simple (Some (Repeat count body)) leaf = absurd leaf
+whole_row t wholes simple (Some (Counted question body)) leaf = absurd leaf
 whole_row t wholes simple (Some (Optional most item initiated body)) leaf = absurd leaf
 whole_row t wholes simple (Some (Choice branches initiated)) leaf = absurd leaf
+whole_row t wholes simple (Some (Dispatch question keys)) leaf = absurd leaf
 whole_row t wholes simple (Some (Statement statement)) leaf = absurd leaf
 whole_row t wholes simple (Some (Concluded behind body)) leaf = absurd leaf
 whole_row t wholes simple (Some (Hidden body)) leaf = absurd leaf

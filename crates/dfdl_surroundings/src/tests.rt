@@ -69,3 +69,14 @@ fn a_variable_is_asked_for(rt: HostRuntime) -> Result<(), Fail> {
     }
     Ok(())
 }
+
+#[test]
+fn counts_and_keys_are_taken(rt: HostRuntime) -> Result<(), Fail> {
+    let alloc = rt.alloc();
+    assert!(rt; take_count(alloc, Evaluated::Known(Value::Int(7))) == Ok(Some(7)));
+    assert!(rt; take_count(alloc, Evaluated::Known(Value::Int(-7))) == Ok(None));
+    assert!(rt; take_count(alloc, Evaluated::Known(Value::Truth(true))) == Err(6));
+    let key = take_text(alloc, Evaluated::Known(Value::Int(-7)))?;
+    assert!(rt; matches!(&key, Ok(text) if text.as_str() == "-7"));
+    Ok(())
+}

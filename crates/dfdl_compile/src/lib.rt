@@ -8,7 +8,6 @@
 mod compiling;
 mod fault;
 mod gathering;
-mod keying;
 mod measuring;
 mod parts;
 mod primitives;

@@ -1,5 +1,4 @@
 pub mod States
-pub mod Spans
 pub mod Outcomes
 pub mod Marks
 pub mod Framing
@@ -18,7 +17,6 @@ pub mod Tests
 pub mod Slots
 pub mod Occurrences
 pub mod Prefixes
-pub mod Instances
 pub mod Questions
 pub mod Rows
 pub mod Documents

@@ -9,5 +9,4 @@ pub mod NilReadings
 pub mod PatternReadings
 pub mod Programs
 pub mod Texts
-pub mod Widths
 pub mod Lies

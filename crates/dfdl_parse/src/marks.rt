@@ -5,7 +5,7 @@ ghost use Rattle.dfdl_grammar.specs.States.{held_from};
 ghost use Rattle.dfdl_parse.specs.Resolving.{is_initiated_at, resolved_at};
 
 use dfdl_grammar::Mark;
-use dfdl_region::{Content, Lengths};
+use dfdl_region::Content;
 use std::alloc::{AllocError, Global};
 use std::marker::Model;
 
@@ -37,7 +37,7 @@ impl Marks {
     pub(crate) fn push(&mut self, mark: Mark) -> Result<(), AllocError>
         ensures { OnOk result (self.new ≡ mark ∷ self.old) }
     {
-        put(&mut self.marks, mark, mark.content, mark.lengths)
+        put(&mut self.marks, mark, mark.content)
     }
 
     /// Closes the innermost mark, if there is one.
@@ -108,20 +108,11 @@ impl Marks {
     }
 }
 
-// Puts a mark behind the others, of an element that has this and is so long.
-fn put(
-    marks: &mut Vec<Mark>,
-    mark: Mark,
-    content: Content,
-    lengths: Option<Lengths>,
-) -> Result<(), AllocError>
-    ensures { OnOk result (marks.new.items ≡ marks.old.items ++ record mark { content = content; lengths = lengths } ∷ []) }
+// Puts a mark behind the others, of an element that has this.
+fn put(marks: &mut Vec<Mark>, mark: Mark, content: Content) -> Result<(), AllocError>
+    ensures { OnOk result (marks.new.items ≡ marks.old.items ++ record mark { content = content } ∷ []) }
 {
-    marks.push(Mark {
-        content,
-        lengths,
-        ..mark
-    })?;
+    marks.push(Mark { content, ..mark })?;
     Ok(())
 }
 

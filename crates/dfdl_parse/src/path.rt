@@ -98,8 +98,6 @@ fn push_name(
         Row::Statement { .. } => Ok(()),
         Row::Concluded { .. } => Ok(()),
         Row::Hidden { .. } => Ok(()),
-        Row::Spanned { .. } => Ok(()),
-        Row::Instance { .. } => Ok(()),
         Row::Separated { .. } => Ok(()),
     }
 }

@@ -17,7 +17,6 @@ fn node(element: u32, parent: u32, content: Content) -> Node {
         element: RowId::new(element),
         parent,
         content,
-        lengths: None,
     }
 }
 

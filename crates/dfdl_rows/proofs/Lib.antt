@@ -1,6 +1,5 @@
 mod Parts
 mod Framed
-mod Opened
 mod Scoped
 mod Boxed
 mod Pushed

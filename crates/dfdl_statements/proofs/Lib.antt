@@ -7,4 +7,3 @@ mod Gathering
 mod Tables
 mod Refused
 mod Kinded
-mod Keys

@@ -1,7 +1,6 @@
 pub mod Braces
 pub mod Texts
 pub mod Sights
-pub mod Unbound
 pub mod Making
 pub mod MakingShown
 pub mod Children

@@ -3,6 +3,7 @@ use Rattle.std.proofs.Common.{◌≡◌, sym, ap, subst, ◌∙◌, ℕ, List, [
 use Rattle.dfdl_components.specs.declared.site.Site.{Site}
 use Rattle.dfdl_length_patterns.specs.Patterns.{anchored}
 use Rattle.dfdl_terms.specs.declared.statement.PatternTest.{PatternTest}
+use Rattle.dfdl_chains.specs.declared.settings.Setter.{Setter}
 use Rattle.dfdl_checks.specs.Judged.{Judged}
 use Rattle.dfdl_checks.specs.Patterns.{form_by, length_pattern, pattern_encoding, pattern_prefix}
 use Rattle.dfdl_checks.specs.Tests.{listed, patterns_of, test_patterns, tests_by, tests_for, tests_of}
@@ -60,7 +61,7 @@ module _ (j : Judged) (is : j.pattern_is_refused ≡ false) where
     group_is_unknown = j.group_is_unknown;
   }
 
-  module _ {E : Type 0} (hidden : Option Site) (settings : List Site) (before after : PatternsSeen) (result : Result Judgement E) where
+  module _ {E : Type 0} (hidden : Option Site) (settings : List Setter) (before after : PatternsSeen) (result : Result Judgement E) where
     -- this is told of the component, by the builds of these patterns
     abbrev pub IsTold : List (List ℕ) → Type 0
     IsTold patterns = IsToldBy patterns (λ (b : Bool). judgement_of hidden settings (with_refused b j)) before after result

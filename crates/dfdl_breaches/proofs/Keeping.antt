@@ -7,6 +7,7 @@ use Rattle.dfdl_report.specs.declared.place.Place.{Place}
 use Rattle.dfdl_components.specs.declared.site.Site.{Site}
 use Rattle.dfdl_components.specs.Recursion.{count_of, number_of}
 use Rattle.dfdl_components.specs.Sites.{IsSite}
+use Rattle.dfdl_chains.specs.declared.settings.Setter.{Setter}
 use Rattle.dfdl_checks.specs.Judged.{Judged}
 use Rattle.dfdl_checks.specs.Tests.{patterns_of}
 use Rattle.dfdl_scope.specs.Scoping.{Element, nothing}
@@ -131,10 +132,10 @@ same_judged refused documents own j kind document at chain facts root prefix sch
 }
 
 -- what is told of a component that hides a group is told of the same one, group and settings
-pub judged_told : {E : Type 0} (j k : Judged) (h o : Option Site) (l m : List Site) (s t : PatternsSeen) (r : Result Judgement E) → j ≡ k → h ≡ o → l ≡ m
+pub judged_told : {E : Type 0} (j k : Judged) (h o : Option Site) (l m : List Setter) (s t : PatternsSeen) (r : Result Judgement E) → j ≡ k → h ≡ o → l ≡ m
     → IsToldBy (patterns_of j) (λ (b : Bool). judgement_of h l (with_refused b j)) s t r
     → IsToldBy (patterns_of k) (λ (b : Bool). judgement_of o m (with_refused b k)) s t r
 judged_told j k h o l m s t r is hidden settings told =
-    subst (λ (x : List Site). IsToldBy (patterns_of k) (λ (b : Bool). judgement_of o x (with_refused b k)) s t r) settings
+    subst (λ (x : List Setter). IsToldBy (patterns_of k) (λ (b : Bool). judgement_of o x (with_refused b k)) s t r) settings
     (subst (λ (x : Option Site). IsToldBy (patterns_of k) (λ (b : Bool). judgement_of x l (with_refused b k)) s t r) hidden
     (subst (λ (x : Judged). IsToldBy (patterns_of x) (λ (b : Bool). judgement_of h l (with_refused b x)) s t r) is told))

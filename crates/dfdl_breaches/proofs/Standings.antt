@@ -1,5 +1,5 @@
 -- What is noted of where components stand.
-use Rattle.std.proofs.Common.{◌≡◌, refl, sym, ap, subst, ◌∙◌, ℕ, zero, suc, ◌+◌, ◌<◌, ◌≤◌, ◌||◌, List, [], ◌∷◌, length, get_or, drop, map, replicate, Bool, true, false, if◌then◌else◌, arith, eqb}
+use Rattle.std.proofs.Common.{◌≡◌, refl, sym, ap, subst, ◌∙◌, ℕ, zero, suc, ◌+◌, ◌<◌, ◌≤◌, ◌||◌, ◌++◌, List, [], ◌∷◌, length, get_or, drop, map, replicate, Bool, true, false, if◌then◌else◌, append_assoc, append-nil, arith, eqb}
 use Rattle.std.proofs.lemmas.List.{get_or_default}
 use Rattle.std.proofs.Math.Dec.{eqb-zero-suc, eqb-suc-suc}
 use Rattle.dfdl_documents.specs.Documents.{SchemaDocument}
@@ -10,7 +10,7 @@ use Rattle.dfdl_checks.specs.Places.{both_of, nowhere}
 use Rattle.dfdl_checks.specs.declared.subject.Standing.{Standing}
 use Rattle.dfdl_chains.specs.Parts.{parts_at}
 use Rattle.dfdl_breaches.proofs.Numbering.{number_below}
-use Rattle.dfdl_breaches.specs.Standing.{asked_at, is_nothing, standing_among, standing_at, standing_from, standing_in}
+use Rattle.dfdl_breaches.specs.Standing.{asked_at, asked_key, is_keyed_at, is_nothing, is_taken, keying_among, keying_if, keys_at, repeats, standing_among, standing_at, standing_from, standing_in}
 use Rattle.dfdl_breaches.specs.StandingShown.{AreStandings, asked_shown}
 use Rattle.dfdl_breaches.specs.declared.standing.Asking.{Asking}
 
@@ -24,13 +24,20 @@ or_both false b c = refl
 
 -- nowhere adds nothing
 pub and_nowhere : (a : Standing) → a ≡ both_of a nowhere
-and_nowhere a = λ i. record { is_initiated = or_false a.is_initiated i; needs_bound = or_false a.needs_bound i }
+and_nowhere a = λ i. record {
+  is_initiated = or_false a.is_initiated i;
+  needs_bound = or_false a.needs_bound i;
+  needs_key = or_false a.needs_key i;
+  repeats_key = or_false a.repeats_key i;
+}
 
 -- it doesn't matter how what stands in several groups is joined
 pub joined : (a b c : Standing) → both_of (both_of a b) c ≡ both_of a (both_of b c)
 joined a b c = λ i. record {
   is_initiated = or_both a.is_initiated b.is_initiated c.is_initiated i;
   needs_bound = or_both a.needs_bound b.needs_bound c.needs_bound i;
+  needs_key = or_both a.needs_key b.needs_key c.needs_key i;
+  repeats_key = or_both a.repeats_key b.repeats_key c.repeats_key i;
 }
 
 -- the rest of a list behind one that is there
@@ -126,10 +133,88 @@ module _ (documents : List SchemaDocument) (group : Site) where
   asked_same asking last others false = others
 
   -- what a group asks of its parts
-  pub group_noted : (asking : Asking) (parts : List Site) (before noted : Standing) (c : ℕ) → parts ≡ parts_at documents group
-      → asking.of_last ≡ asked_at documents group true → asking.of_others ≡ asked_at documents group false
-      → noted ≡ both_of before (standing_among (asked_shown asking) (map (number_of documents) parts) c)
+  pub group_noted : (asking : Asking) (parts : List Site) (before between noted : Standing) (c : ℕ) → parts ≡ parts_at documents group
+      → asking.of_last ≡ asked_at documents group true → asking.of_others ≡ asked_at documents group false → asking.is_keyed ≡ is_keyed_at documents group
+      → between ≡ both_of before (standing_among (asked_shown asking) (map (number_of documents) parts) c)
+      → noted ≡ both_of between (keying_if documents asking.is_keyed parts c)
       → noted ≡ both_of before (standing_in documents group c)
-  group_noted asking parts before noted c are last others made =
-      made
-      ∙ (λ i. both_of before (standing_among (λ is_last. asked_same asking last others is_last i) (map (number_of documents) (are i)) c))
+  group_noted asking parts before between noted c are last others keyed made more =
+      let parted : between ≡ both_of before (standing_among (asked_at documents group) (map (number_of documents) (parts_at documents group)) c)
+      = made ∙ (λ i. both_of before (standing_among (λ is_last. asked_same asking last others is_last i) (map (number_of documents) (are i)) c)) in
+      more
+      ∙ ((λ i. both_of (parted i) (keying_if documents (keyed i) (are i) c))
+      ∙ joined before (standing_among (asked_at documents group) (map (number_of documents) (parts_at documents group)) c)
+      (keying_if documents (is_keyed_at documents group) (parts_at documents group) c))
+
+  -- a group without parts asks nothing
+  pub none_asked : (parts : List Site) (before : Standing) (c : ℕ) → parts ≡ parts_at documents group → length parts ≡ 0
+      → before ≡ both_of before (standing_in documents group c)
+  none_asked parts before c are none =
+      and_nowhere before
+      ∙ ap (both_of before) (sym (subst (λ (ps : List Site). both_of (standing_among (asked_at documents group) (map (number_of documents) ps) c)
+      (keying_if documents (is_keyed_at documents group) ps c) ≡ nowhere) are (empty parts none)))
+    where
+      same : (b : Bool) → (if b then nowhere else nowhere) ≡ nowhere
+      same true = refl
+      same false = refl
+
+      empty : (ps : List Site) → length ps ≡ 0
+          → both_of (standing_among (asked_at documents group) (map (number_of documents) ps) c) (keying_if documents (is_keyed_at documents group) ps c) ≡ nowhere
+      empty [] none = ap (both_of nowhere) (same (is_keyed_at documents group))
+      empty (p ∷ ps) none = absurd (omega (arith, none))
+
+-- one key more
+pub key_more : (keys taken now : List (List ℕ)) (key : List ℕ) (at : ℕ) (d : List ℕ) (again after is_again all : Bool) → at < length keys
+    → key ≡ get_or keys at d → is_again ≡ is_taken taken key → now ≡ taken ++ key ∷ [] → after ≡ (again || is_again)
+    → (again || repeats taken (drop at keys)) ≡ all → (after || repeats now (drop (at + 1) keys)) ≡ all
+key_more keys taken now key at d again after is_again all less is tested made next so_far =
+    let rest : List (List ℕ) = drop (at + 1) keys in
+    (λ i. (next ∙ ap (λ (b : Bool). again || b) tested) i || repeats (made i) rest)
+    ∙ (or_both again (is_taken taken key) (repeats (taken ++ key ∷ []) rest)
+    ∙ (ap (λ (xs : List (List ℕ)). again || repeats taken xs) (ap (λ (k : List ℕ). k ∷ rest) is ∙ sym (rest_at keys at d less)) ∙ so_far))
+
+-- none is left
+pub keys_end : (keys taken : List (List ℕ)) (at : ℕ) (again all : Bool) → length keys ≤ at → (again || repeats taken (drop at keys)) ≡ all → again ≡ all
+keys_end keys taken at again all past so_far =
+    or_false again ∙ (ap (λ (xs : List (List ℕ)). again || repeats taken xs) (sym (none_left keys at past)) ∙ so_far)
+
+-- one key more is taken
+pub taken_more : (keys taken now all : List (List ℕ)) (key : List ℕ) (at : ℕ) (d : List ℕ) → at < length keys → key ≡ get_or keys at d → now ≡ taken ++ key ∷ []
+    → taken ++ drop at keys ≡ all → now ++ drop (at + 1) keys ≡ all
+taken_more keys taken now all key at d less is made so_far =
+    let rest : List (List ℕ) = drop (at + 1) keys in
+    ap (λ (ks : List (List ℕ)). ks ++ rest) made
+    ∙ (append_assoc taken (key ∷ []) rest
+    ∙ (ap (λ (ks : List (List ℕ)). taken ++ ks) (ap (λ (k : List ℕ). k ∷ rest) is ∙ sym (rest_at keys at d less)) ∙ so_far))
+
+-- all are taken
+pub taken_end : (keys taken all : List (List ℕ)) (at : ℕ) → length keys ≤ at → taken ++ drop at keys ≡ all → taken ≡ all
+taken_end keys taken all at past so_far =
+    sym (append-nil taken) ∙ (ap (λ (ks : List (List ℕ)). taken ++ ks) (sym (none_left keys at past)) ∙ so_far)
+
+module _ (documents : List SchemaDocument) (branches : List Site) (c : ℕ) where
+  -- what was asked before and of the branches so far, with what is asked of those that are left, is all
+  pub next_branch : (before noted new : Standing) (taken now keys : List (List ℕ)) (at number : ℕ) (d : Site) (again : Bool) (own : Standing) → at < length branches
+      → number ≡ number_of documents (get_or branches at d) → keys ≡ keys_at documents (get_or branches at d) → again ≡ repeats taken keys → now ≡ taken ++ keys
+      → own ≡ asked_key again
+      → both_of noted (keying_among documents taken (drop at branches) c) ≡ both_of before (keying_among documents [] branches c)
+      → new ≡ both_of noted (if eqb number c then own else nowhere)
+      → both_of new (keying_among documents now (drop (at + 1) branches) c) ≡ both_of before (keying_among documents [] branches c)
+  next_branch before noted new taken now keys at number d again own less is keys_are repeated more asks so_far made =
+      let branch : Site = get_or branches at d in
+      let rest : List (List ℕ) → Standing = λ ks. keying_among documents ks (drop (at + 1) branches) c in
+      let asked : own ≡ asked_key (repeats taken (keys_at documents branch)) = asks ∙ ap asked_key (repeated ∙ ap (repeats taken) keys_are) in
+      let taken_now : now ≡ taken ++ keys_at documents branch = more ∙ ap (λ (ks : List (List ℕ)). taken ++ ks) keys_are in
+      let here : (if eqb number c then own else nowhere)
+      ≡ (if eqb (number_of documents branch) c then asked_key (repeats taken (keys_at documents branch)) else nowhere) =
+      λ i. if eqb (is i) c then asked i else nowhere in
+      (λ i. both_of ((made ∙ ap (both_of noted) here) i) (rest (taken_now i)))
+      ∙ (joined noted (if eqb (number_of documents branch) c then asked_key (repeats taken (keys_at documents branch)) else nowhere)
+      (rest (taken ++ keys_at documents branch))
+      ∙ (ap (λ (xs : List Site). both_of noted (keying_among documents taken xs c)) (sym (rest_at branches at d less)) ∙ so_far))
+
+  pub all_branches : (before noted : Standing) (taken : List (List ℕ)) (at : ℕ) → length branches ≤ at
+      → both_of noted (keying_among documents taken (drop at branches) c) ≡ both_of before (keying_among documents [] branches c)
+      → noted ≡ both_of before (keying_among documents [] branches c)
+  all_branches before noted taken at past so_far =
+      and_nowhere noted ∙ (ap (λ (xs : List Site). both_of noted (keying_among documents taken xs c)) (sym (none_left branches at past)) ∙ so_far)

@@ -4,13 +4,13 @@ use Rattle.std.proofs.lemmas.List.Concat.{flat_map-cons}
 use Rattle.std.proofs.lemmas.List.Elements.{All-nil, All-append, All-cons, All-head, All-tail}
 use Rattle.dfdl_documents.specs.Documents.{SchemaDocument}
 use Rattle.dfdl_components.specs.declared.site.Site.{Site}
-use Rattle.dfdl_components.specs.Sites.{IsSite}
 use Rattle.dfdl_checks.specs.Judged.{TestJudged}
 use Rattle.dfdl_checks.specs.Tests.{check_by, check_of, check_text, check_with, checks_by, tests_for}
 use Rattle.dfdl_checks.specs.declared.expression_tests.CheckForm.{CheckForm}
 use Rattle.dfdl_checks.specs.declared.purpose.Purpose.{Purpose}
 use Rattle.dfdl_checks.specs.declared.purpose.Purpose.TheVariants.{Parsing, Unparsing}
-use Rattle.dfdl_chains.specs.Settings.{settings_at}
+use Rattle.dfdl_chains.specs.Settings.{IsSetterOf, settings_at}
+use Rattle.dfdl_chains.specs.declared.settings.Setter.{Setter}
 use Rattle.dfdl_chains.specs.Tests.{IsTestOf, tests_at}
 use Rattle.dfdl_breaches.specs.Hidden.{hides, hiding_at, settings_where, tests_where}
 use Rattle.dfdl_breaches.specs.Judging.{IsCheckOf, built_checks_at, built_settings_at, settings_for}
@@ -39,11 +39,11 @@ module _ (documents : List SchemaDocument) where
   tests_kept Unparsing is_hidden tests within = All-nil (IsTestOf documents)
 
   -- so are settings
-  settings_kept : (purpose : Purpose) (is_hidden : Bool) (settings : List Site) → All (IsSite documents) settings
-      → All (IsSite documents) (settings_for purpose (settings_where is_hidden settings))
+  settings_kept : (purpose : Purpose) (is_hidden : Bool) (settings : List Setter) → All (IsSetterOf documents) settings
+      → All (IsSetterOf documents) (settings_for purpose (settings_where is_hidden settings))
   settings_kept Parsing false settings within = within
-  settings_kept Parsing true settings within = All-nil (IsSite documents)
-  settings_kept Unparsing is_hidden settings within = All-nil (IsSite documents)
+  settings_kept Parsing true settings within = All-nil (IsSetterOf documents)
+  settings_kept Unparsing is_hidden settings within = All-nil (IsSetterOf documents)
 
   -- the tests of expressions of a component are elements of the documents
   pub checks_within : (purpose : Purpose) (refused : Site → Bool) (own : Site) → All (IsTestOf documents) (tests_at documents own)
@@ -53,6 +53,6 @@ module _ (documents : List SchemaDocument) where
       (tests_kept purpose (hides (hiding_at purpose documents own)) (tests_at documents own) within)
 
   -- so are its settings
-  pub settings_within : (purpose : Purpose) (own : Site) → All (IsSite documents) (settings_at documents own)
-      → All (IsSite documents) (built_settings_at purpose documents own)
+  pub settings_within : (purpose : Purpose) (own : Site) → All (IsSetterOf documents) (settings_at documents own)
+      → All (IsSetterOf documents) (built_settings_at purpose documents own)
   settings_within purpose own within = settings_kept purpose (hides (hiding_at purpose documents own)) (settings_at documents own) within

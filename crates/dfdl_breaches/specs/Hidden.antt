@@ -16,6 +16,7 @@ use Rattle.dfdl_chains.specs.Chains.{chain_sites}
 use Rattle.dfdl_chains.specs.Facts.{facts_at}
 use Rattle.dfdl_chains.specs.Hidden.{group_named}
 use Rattle.dfdl_chains.specs.Kinds.{kind_at}
+use Rattle.dfdl_chains.specs.declared.settings.Setter.{Setter}
 use Rattle.dfdl_references.specs.Writers.{writer_of}
 use Rattle.dfdl_breaches.specs.Roots.{chain_at}
 use Rattle.dfdl_breaches.specs.declared.hiding.Hiding.{Hiding}
@@ -94,7 +95,7 @@ abbrev pub tests_where : Bool → List TestJudged → List TestJudged
 tests_where false tests = tests
 tests_where true tests = []
 
--- the setVariable elements of a component that may hide a group
-abbrev pub settings_where : Bool → List Site → List Site
+-- what sets variables at a component that may hide a group
+abbrev pub settings_where : Bool → List Setter → List Setter
 settings_where false settings = settings
 settings_where true settings = []

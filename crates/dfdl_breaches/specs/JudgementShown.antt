@@ -5,6 +5,7 @@ use Rattle.dfdl_checks.specs.Calculations.{calculation_of}
 use Rattle.dfdl_checks.specs.Delimiters.{delimiters_of}
 use Rattle.dfdl_checks.specs.Framing.{framing_of}
 use Rattle.dfdl_checks.specs.Judged.{Judged}
+use Rattle.dfdl_checks.specs.Keys.{key_expression, keys_of}
 use Rattle.dfdl_checks.specs.Measures.{count_expression, measure_of}
 use Rattle.dfdl_checks.specs.Numbers.{primitive_of}
 use Rattle.dfdl_checks.specs.Occurrences.{is_count_parsed, occurrences_of}
@@ -12,12 +13,13 @@ use Rattle.dfdl_checks.specs.Representations.{representations_of}
 use Rattle.dfdl_checks.specs.Rules.{breach_of_component}
 use Rattle.dfdl_checks.specs.Standings.{initiates}
 use Rattle.dfdl_checks.specs.Tests.{checks_of, tests_of}
+use Rattle.dfdl_chains.specs.declared.settings.Setter.{Setter}
 use Rattle.dfdl_components.specs.declared.site.Site.{Site}
 use Rattle.dfdl_breaches.specs.Judging.{form_before}
 use Rattle.dfdl_breaches.specs.declared.judgement.Judgement.{Judgement}
 
 -- what is told
-abbrev pub judgement_of : Option Site → List Site → Judged → Judgement
+abbrev pub judgement_of : Option Site → List Setter → Judged → Judgement
 judgement_of hidden settings j = record {
   breach = breach_of_component j;
   primitive = primitive_of j;
@@ -35,5 +37,7 @@ judgement_of hidden settings j = record {
   calculation = calculation_of j;
   measure = measure_of j;
   count = count_expression j;
+  key = key_expression j;
+  keys = keys_of j;
   hidden = hidden;
 }

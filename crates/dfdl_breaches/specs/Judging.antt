@@ -8,6 +8,7 @@ use Rattle.dfdl_components.specs.Globals.{site}
 use Rattle.dfdl_components.specs.Sites.{IsSite, role_of}
 use Rattle.dfdl_checks.specs.Calculations.{calculation_of, kind_for}
 use Rattle.dfdl_checks.specs.Judged.{Judged}
+use Rattle.dfdl_checks.specs.Keys.{key_expression, keys_of}
 use Rattle.dfdl_checks.specs.Measures.{count_expression, measure_of}
 use Rattle.dfdl_checks.specs.Occurrences.{is_count_parsed, occurrences_of}
 use Rattle.dfdl_checks.specs.Patterns.{pattern_prefix}
@@ -33,6 +34,7 @@ use Rattle.dfdl_chains.specs.Facts.{facts_at}
 use Rattle.dfdl_chains.specs.Kinds.{kind_at}
 use Rattle.dfdl_chains.specs.Parts.{is_component}
 use Rattle.dfdl_chains.specs.Settings.{settings_at}
+use Rattle.dfdl_chains.specs.declared.settings.Setter.{Setter}
 use Rattle.dfdl_chains.specs.Tests.{tests_at}
 use Rattle.dfdl_terms.specs.Framing.{no_fill}
 use Rattle.dfdl_terms.specs.Occurs.{occurs_once}
@@ -48,12 +50,12 @@ use Rattle.dfdl_breaches.specs.Schemes.{scheme_at}
 use Rattle.dfdl_breaches.specs.Standing.{standing_at}
 use Rattle.dfdl_breaches.specs.declared.judgement.Judgement.{Judgement}
 
--- the setVariable elements at a component; at a sequence that stands for a hidden group there are none
-abbrev pub stated_settings_at : Purpose → List SchemaDocument → Site → List Site
+-- what sets variables at a component; at a sequence that stands for a hidden group there are none
+abbrev pub stated_settings_at : Purpose → List SchemaDocument → Site → List Setter
 stated_settings_at purpose documents own = settings_where (hides (hiding_at purpose documents own)) (settings_at documents own)
 
 -- there are some
-abbrev pub are_some : List Site → Bool
+abbrev pub are_some : List Setter → Bool
 are_some settings = nat_lt 0 (length settings)
 
 -- the kind of a component as the rules see it: a sequence that hides a group has one of its own, and so has an element whose value is
@@ -153,13 +155,21 @@ measure_at purpose refused documents own = measure_of (judged_at purpose refused
 abbrev pub count_at : Purpose → (Site → Bool) → List SchemaDocument → Site → Option (List ℕ)
 count_at purpose refused documents own = count_expression (judged_at purpose refused documents own)
 
+-- the expression that tells the key by which the branch of a component is taken, if there is one
+abbrev pub key_at : Purpose → (Site → Bool) → List SchemaDocument → Site → Option (List ℕ)
+key_at purpose refused documents own = key_expression (judged_at purpose refused documents own)
+
+-- the keys of a component, where it is a branch of a choice by a key
+abbrev pub branch_keys_at : Purpose → (Site → Bool) → List SchemaDocument → Site → List (List ℕ)
+branch_keys_at purpose refused documents own = keys_of (judged_at purpose refused documents own)
+
 -- settings are built for parsing
-abbrev pub settings_for : Purpose → List Site → List Site
+abbrev pub settings_for : Purpose → List Setter → List Setter
 settings_for Parsing settings = settings
 settings_for Unparsing settings = []
 
--- the setVariable elements of a component that are built
-abbrev pub built_settings_at : Purpose → List SchemaDocument → Site → List Site
+-- what sets variables at a component and is built
+abbrev pub built_settings_at : Purpose → List SchemaDocument → Site → List Setter
 built_settings_at purpose documents own = settings_for purpose (stated_settings_at purpose documents own)
 
 -- the sequence or choice of the group that a component hides
@@ -185,6 +195,8 @@ no_judgement = record {
   calculation = None;
   measure = None;
   count = None;
+  key = None;
+  keys = [];
   hidden = None;
 }
 
@@ -209,6 +221,8 @@ judgement_at purpose refused documents own =
       calculation = calculation_at purpose refused documents own;
       measure = measure_at purpose refused documents own;
       count = count_at purpose refused documents own;
+      key = key_at purpose refused documents own;
+      keys = branch_keys_at purpose refused documents own;
       hidden = hidden_at purpose documents own;
     }
     else no_judgement

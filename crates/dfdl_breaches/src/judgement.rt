@@ -2,7 +2,7 @@
 use crate::check_list::CheckList;
 use crate::setting_list::SettingList;
 use crate::test_list::TestList;
-use dfdl_checks::{Breach, Markup, MeasureForm, OtherRepresentations, PrefixForm};
+use dfdl_checks::{Breach, KeyList, Markup, MeasureForm, OtherRepresentations, PrefixForm};
 use dfdl_components::Site;
 use dfdl_terms::{Framing, Occurs, Primitive};
 use dfdl_value::TextValue;
@@ -34,7 +34,7 @@ pub struct Judgement {
     pub tests: TestList,
     /// Its tests of expressions, in their order.
     pub checks: CheckList,
-    /// Its setVariable elements, in their order ('Syntax of DFDL Annotation Elements').
+    /// What opens instances of variables at it, and then what sets variables, each in its order ('Syntax of DFDL Annotation Elements').
     pub settings: SettingList,
     /// The expression by which its value is calculated, as it is written, if it is ('Calculated Values').
     pub calculation: Option<TextValue>,
@@ -42,6 +42,10 @@ pub struct Judgement {
     pub measure: Option<MeasureForm>,
     /// The expression that tells how often it occurs, as it is written, if it does ('Arrays and Optional Elements').
     pub count: Option<TextValue>,
+    /// The expression that tells the key by which its branch is taken, as it is written, where it is a choice by a key ('Choices').
+    pub key: Option<TextValue>,
+    /// Its keys, where it is a branch of such a choice.
+    pub keys: KeyList,
     /// It stands for the group of this sequence or choice, whose elements the infoset doesn't have ('Sequence Groups').
     pub hidden: Option<Site>,
 }

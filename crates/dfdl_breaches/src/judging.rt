@@ -14,9 +14,9 @@ use crate::setting_list::SettingList;
 use crate::test_list::TestList;
 use crate::testing::tests_of;
 use dfdl_checks::{
-    PrefixForm, Subject, breach, calculation, checks, count, delimiters_at, framing, initiates,
-    is_count_parsed, length_pattern, measure, message_of, occurrences, other_representations,
-    pattern_encoding, prefix, primitive, size_of_box,
+    PrefixForm, Subject, branch_keys, breach, calculation, checks, count, delimiters_at, framing,
+    initiates, is_count_parsed, key, length_pattern, measure, message_of, occurrences,
+    other_representations, pattern_encoding, prefix, primitive, size_of_box,
 };
 use dfdl_components::Site;
 use dfdl_edge::{PatternRefusal, Patterns};
@@ -73,6 +73,8 @@ fn told_of(
     let calculation = message_of(alloc, calculation(subject))?;
     let measure = measure(alloc, subject)?;
     let count = count(alloc, subject)?;
+    let key = key(alloc, subject)?;
+    let keys = branch_keys(alloc, subject)?;
     Ok(Judgement {
         breach,
         primitive,
@@ -90,6 +92,8 @@ fn told_of(
         calculation,
         measure,
         count,
+        key,
+        keys,
         hidden,
     })
 }

@@ -15,9 +15,10 @@ ghost use Rattle.dfdl_checks.specs.Subjects.{is_simple, simple_of};
 ghost use Rattle.dfdl_checks.specs.declared.purpose.Purpose.{Purpose};
 ghost use Rattle.dfdl_checks.specs.declared.purpose.Purpose.TheVariants.{Unparsing};
 ghost use Rattle.dfdl_chains.specs.Kinds.{kind_at};
+ghost use Rattle.dfdl_chains.specs.Settings.{IsSetterOf};
 ghost use Rattle.dfdl_checks.specs.declared.prefixes.PrefixForm.{PrefixForm};
 ghost use Rattle.dfdl_breaches.specs.Builds.{AreAllBuilt, PatternsSeen, patterns_at};
-ghost use Rattle.dfdl_breaches.specs.Judging.{IsCheckOf, breach_at, built_checks_at, built_settings_at, built_tests_at, calculation_at, count_at, form_of_prefix, hidden_at, initiates_at, is_parsed_at, measure_at, others_at, primitive_at};
+ghost use Rattle.dfdl_breaches.specs.Judging.{IsCheckOf, breach_at, built_checks_at, built_settings_at, built_tests_at, calculation_at, count_at, form_of_prefix, hidden_at, initiates_at, is_parsed_at, key_at, measure_at, others_at, primitive_at};
 
 use dfdl_chains::{named_groups_are_within, statements_are_within};
 use dfdl_checks::laws::{
@@ -37,8 +38,11 @@ pub fn sound_elements_have_bounded_primitives()
     ensures parsing { (refused : Site → Bool) (documents : List SchemaDocument) (own : Site) → form_of_prefix Unparsing refused documents own ≡ None }
     ensures nil { (purpose : Purpose) (refused : Site → Bool) (documents : List SchemaDocument) (own : Site) (p : Primitive)
         → (others_at purpose refused documents own).nil ≡ Some p → IsPrimitive p }
-    ensures empty { (purpose : Purpose) (refused : Site → Bool) (documents : List SchemaDocument) (own : Site) (p : Primitive)
-        → (others_at purpose refused documents own).empty ≡ Some p → ((form : DefaultForm) → p ≡ Default form → IsWritten form.value)
+    ensures required { (purpose : Purpose) (refused : Site → Bool) (documents : List SchemaDocument) (own : Site) (p : Primitive)
+        → (others_at purpose refused documents own).required.empty ≡ Some p → ((form : DefaultForm) → p ≡ Default form → IsWritten form.value)
+        → IsPrimitive p }
+    ensures where_tried { (purpose : Purpose) (refused : Site → Bool) (documents : List SchemaDocument) (own : Site) (p : Primitive)
+        → (others_at purpose refused documents own).where_tried.empty ≡ Some p → ((form : DefaultForm) → p ≡ Default form → IsWritten form.value)
         → IsPrimitive p }
     ensures normal { (refused : Site → Bool) (documents : List SchemaDocument) (own : Site) → others_at Unparsing refused documents own ≡ no_representations }
     ensures bounded { (purpose : Purpose) (refused : Site → Bool) (documents : List SchemaDocument) (own : Site) (p : Primitive)
@@ -56,7 +60,7 @@ pub fn sound_elements_have_bounded_primitives()
 }
 
 /// For unparsing no test and no setting is built, no value is calculated, no component hides a group, no content is initiated, no
-/// occurrence is of kind parsed, and no expression tells a length or a number of occurrences.
+/// occurrence is of kind parsed, and no expression tells a length, a number of occurrences or a key.
 #[tactic(auto, using(crate::proofs::HiddenKinds::untested, crate::proofs::HiddenKinds::unhidden))]
 pub fn statements_are_for_parsing()
     ensures tests { (refused : Site → Bool) (documents : List SchemaDocument) (own : Site) → built_tests_at Unparsing refused documents own ≡ [] }
@@ -68,6 +72,7 @@ pub fn statements_are_for_parsing()
     ensures counted { (refused : Site → Bool) (documents : List SchemaDocument) (own : Site) → is_parsed_at Unparsing refused documents own ≡ false }
     ensures unmeasured { (refused : Site → Bool) (documents : List SchemaDocument) (own : Site) → measure_at Unparsing refused documents own ≡ None }
     ensures uncounted { (refused : Site → Bool) (documents : List SchemaDocument) (own : Site) → count_at Unparsing refused documents own ≡ None }
+    ensures unkeyed { (refused : Site → Bool) (documents : List SchemaDocument) (own : Site) → key_at Unparsing refused documents own ≡ None }
 {}
 
 /// A group that a component hides is one of the documents'.
@@ -92,7 +97,7 @@ pub fn told_statements_are_within()
     ensures checks { (purpose : Purpose) (refused : Site → Bool) (documents : List SchemaDocument) (own : Site) → IsSite documents own
         → All (IsCheckOf documents) (built_checks_at purpose refused documents own) }
     ensures settings { (purpose : Purpose) (documents : List SchemaDocument) (own : Site) → IsSite documents own
-        → All (IsSite documents) (built_settings_at purpose documents own) }
+        → All (IsSetterOf documents) (built_settings_at purpose documents own) }
 {
     statements_are_within();
 }

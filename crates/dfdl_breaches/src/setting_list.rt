@@ -1,18 +1,18 @@
 // Lists of elements that set variables.
-use dfdl_components::Site;
+use dfdl_chains::Setter;
 use std::marker::Model;
 
-/// The setVariable elements of a component, one after the other. A contract sees them as their list.
+/// What opens instances of variables at a component, and then what sets variables there. A contract sees them as their list.
 #[derive(Debug, Drop)]
 pub struct SettingList {
-    settings: Vec<Site>,
+    settings: Vec<Setter>,
 }
 
 impl Model for SettingList {
     ghost use Rattle.std.specs.Prelude.{List};
-    ghost use Rattle.dfdl_components.specs.declared.site.Site.{Site as SiteOf};
+    ghost use Rattle.dfdl_chains.specs.declared.settings.Setter.{Setter as SetterOf};
 
-    ghost Value = { List SiteOf };
+    ghost Value = { List SetterOf };
 
     ghost view = { λ l. l.settings.items };
 }
@@ -21,20 +21,20 @@ impl SettingList {
     ghost use Rattle.std.specs.Prelude.{◌≡◌};
 
     /// Takes the elements as they are, and no memory.
-    pub fn from_vec(settings: Vec<Site>) -> SettingList
+    pub fn from_vec(settings: Vec<Setter>) -> SettingList
         ensures { result ≡ settings.items }
     {
         SettingList { settings }
     }
 
-    pub fn as_slice(&self) -> &[Site]
+    pub fn as_slice(&self) -> &[Setter]
         ensures { result.now ≡ self.now }
     {
         self.settings.as_slice()
     }
 
     /// The elements as they are. Takes no memory.
-    pub fn into_vec(self) -> Vec<Site>
+    pub fn into_vec(self) -> Vec<Setter>
         ensures { result.items ≡ self }
     {
         self.settings

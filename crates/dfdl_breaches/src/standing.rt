@@ -1,5 +1,5 @@
 // In which groups components stand, and what these ask of them.
-ghost use Rattle.std.specs.Prelude.{◌≡◌, ◌<◌, ℕ, List, All, IfOk, OnOk, true, false, codes, get_or, if◌then◌else◌, length, map, nat_eq};
+ghost use Rattle.std.specs.Prelude.{◌≡◌, ◌<◌, ◌++◌, [], ℕ, List, All, IfOk, OnOk, true, false, codes, get_or, if◌then◌else◌, length, map, nat_eq};
 ghost use Rattle.dfdl_checks.specs.Places.{both_of, nowhere};
 ghost use Rattle.dfdl_checks.specs.Subjects.{is_plain_group};
 ghost use Rattle.dfdl_chains.specs.Chains.{chain_sites};
@@ -16,9 +16,10 @@ ghost use Rattle.dfdl_breaches.specs.StandingShown.{AreStandings, asked_shown};
 use crate::chain::chain_at;
 use crate::kept::Kept;
 use dfdl_chains::{chain_sites, kind_at, parts_at};
-use dfdl_checks::{Kind, Standing, is_delimiter, is_word};
+use dfdl_checks::{KeyList, Kind, Standing, is_delimiter, is_keyed_by, is_word, keys_of_chain};
 use dfdl_components::{Schema, Site};
 use dfdl_scope::{Component, property};
+use dfdl_value::TextValue;
 use std::alloc::{AllocError, Global};
 
 /// What a group asks of its last part, and of each other.
@@ -26,6 +27,8 @@ use std::alloc::{AllocError, Global};
 pub(crate) struct Asking {
     pub(crate) of_last: Standing,
     pub(crate) of_others: Standing,
+    /// It is a choice by a key.
+    pub(crate) is_keyed: bool,
 }
 
 /// In no group that asks anything of it.
@@ -35,6 +38,8 @@ fn nowhere() -> Standing
     Standing {
         is_initiated: false,
         needs_bound: false,
+        needs_key: false,
+        repeats_key: false,
     }
 }
 
@@ -45,6 +50,8 @@ fn both_of(one: Standing, other: Standing) -> Standing
     Standing {
         is_initiated: one.is_initiated || other.is_initiated,
         needs_bound: one.needs_bound || other.needs_bound,
+        needs_key: one.needs_key || other.needs_key,
+        repeats_key: one.repeats_key || other.repeats_key,
     }
 }
 
@@ -104,6 +111,8 @@ fn asked_by(is_last: bool, kind: Kind, chain: &Component<'_, '_>) -> Standing
     Standing {
         is_initiated: is_initiating(kind, chain),
         needs_bound: is_bounding(is_last, kind, chain),
+        needs_key: false,
+        repeats_key: false,
     }
 }
 
@@ -130,6 +139,7 @@ fn asking_of(
     requires site { IsSite schema.now site }
     ensures last { IfOk result (λ asking. asking.of_last ≡ spec.asked_at schema.now site true) }
     ensures others { IfOk result (λ asking. asking.of_others ≡ spec.asked_at schema.now site false) }
+    ensures keyed { IfOk result (λ asking. asking.is_keyed ≡ spec.is_keyed_at schema.now site) }
 {
     let kind = kind_at(schema, &kept.sites.numbers, site);
     chain_sites(schema, &kept.sites.numbers, site, chain)?;
@@ -151,12 +161,14 @@ fn asking_by(
     requires within { All (IsSite schema.now) sites.now }
     ensures last { IfOk result (λ asking. asking.of_last ≡ spec.asked_at schema.now site true) }
     ensures others { IfOk result (λ asking. asking.of_others ≡ spec.asked_at schema.now site false) }
+    ensures keyed { IfOk result (λ asking. asking.is_keyed ≡ spec.is_keyed_at schema.now site) }
 {
     let _ = site;
     let chain = chain_at(alloc, kept, schema, sites)?;
     Ok(Asking {
         of_last: asked_by(true, kind, &chain),
         of_others: asked_by(false, kind, &chain),
+        is_keyed: is_keyed_by(kind, &chain),
     })
 }
 
@@ -192,6 +204,132 @@ fn note_parts(
     }
 }
 
+// Whether a key stands among those that are taken.
+fn is_taken(taken: &[TextValue], key: &TextValue) -> bool
+    ensures { result ≡ spec.is_taken taken.now key.now }
+{
+    for other in taken {
+        if other.as_str() == key.as_str() {
+            return true;
+        }
+    }
+    false
+}
+
+// Takes some keys, and answers whether one of them was taken before.
+fn take_keys(
+    alloc: Global,
+    keys: &[TextValue],
+    taken: &mut Vec<TextValue>,
+) -> Result<bool, AllocError>
+    ensures again { IfOk result (λ again. again ≡ spec.repeats taken.old.items keys.now) }
+    ensures taken { OnOk result (taken.new.items ≡ taken.old.items ++ keys.now) }
+{
+    let mut again = false;
+    for key in keys {
+        let is_again = is_taken(taken.as_slice(), key);
+        let copy = key.copy(alloc)?;
+        taken.push(copy)?;
+        again |= is_again;
+    }
+    Ok(again)
+}
+
+// The keys of a branch.
+fn keys_at(
+    alloc: Global,
+    kept: &Kept<'_, '_>,
+    schema: &Schema,
+    site: Site,
+    chain: &mut Vec<Site>,
+) -> Result<KeyList, AllocError>
+    requires kept { AreKept schema.now kept.now }
+    requires site { IsSite schema.now site }
+    ensures { IfOk result (λ keys. keys ≡ spec.keys_at schema.now site) }
+{
+    chain_sites(schema, &kept.sites.numbers, site, chain)?;
+    keys_in(alloc, kept, schema, site, chain.as_slice())
+}
+
+// The keys of a branch with this chain.
+fn keys_in(
+    alloc: Global,
+    kept: &Kept<'_, '_>,
+    schema: &Schema,
+    site: Site,
+    sites: &[Site],
+) -> Result<KeyList, AllocError>
+    requires kept { AreKept schema.now kept.now }
+    requires chain { sites.now ≡ chain_sites schema.now site }
+    requires within { All (IsSite schema.now) sites.now }
+    ensures { IfOk result (λ keys. keys ≡ spec.keys_at schema.now site) }
+{
+    let _ = site;
+    let chain = chain_at(alloc, kept, schema, sites)?;
+    keys_of_chain(alloc, &chain)
+}
+
+// What a choice by a key asks of a branch that repeats a key, or of another.
+fn asked_key(again: bool) -> Standing
+    ensures { result ≡ spec.asked_key again }
+{
+    Standing {
+        is_initiated: false,
+        needs_bound: false,
+        needs_key: true,
+        repeats_key: again,
+    }
+}
+
+// Notes what a choice by a key asks of its branches.
+fn note_branches(
+    alloc: Global,
+    kept: &Kept<'_, '_>,
+    schema: &Schema,
+    branches: &[Site],
+    chain: &mut Vec<Site>,
+    standings: &mut Vec<Standing>,
+) -> Result<(), AllocError>
+    requires kept { AreKept schema.now kept.now }
+    requires branches { All (IsSite schema.now) branches.now }
+    requires many { length standings.old.items ≡ count_of schema.now }
+    ensures noted { (c : ℕ) → OnOk result (get_or standings.new.items c nowhere
+        ≡ both_of (get_or standings.old.items c nowhere) (spec.keying_among schema.now [] branches.now c)) }
+    ensures many { length standings.new.items ≡ length standings.old.items }
+{
+    let mut taken = Vec::new(alloc);
+    for at in 0..branches.len() {
+        let keys = keys_at(alloc, kept, schema, branches[at], chain)?;
+        let again = take_keys(alloc, keys.as_slice(), &mut taken)?;
+        let number = kept.sites.number(schema, branches[at]);
+        note(standings, number, asked_key(again));
+    }
+    Ok(())
+}
+
+// The same of a group that is one or isn't.
+fn note_branches_if(
+    alloc: Global,
+    kept: &Kept<'_, '_>,
+    schema: &Schema,
+    is_keyed: bool,
+    branches: &[Site],
+    chain: &mut Vec<Site>,
+    standings: &mut Vec<Standing>,
+) -> Result<(), AllocError>
+    requires kept { AreKept schema.now kept.now }
+    requires branches { All (IsSite schema.now) branches.now }
+    requires many { length standings.old.items ≡ count_of schema.now }
+    ensures noted { (c : ℕ) → OnOk result (get_or standings.new.items c nowhere
+        ≡ both_of (get_or standings.old.items c nowhere) (spec.keying_if schema.now is_keyed branches.now c)) }
+    ensures many { length standings.new.items ≡ length standings.old.items }
+{
+    if !is_keyed {
+        return Ok(());
+    }
+    note_branches(alloc, kept, schema, branches, chain, standings)
+}
+
 // Notes what a component asks of its parts, which the list takes.
 fn note_group(
     alloc: Global,
@@ -214,7 +352,17 @@ fn note_group(
         return Ok(());
     }
     let asking = asking_of(alloc, kept, schema, site, chain)?;
-    note_parts(kept, schema, parts.as_slice(), asking, standings);
+    let branches = parts.as_slice();
+    note_parts(kept, schema, branches, asking, standings);
+    note_branches_if(
+        alloc,
+        kept,
+        schema,
+        asking.is_keyed,
+        branches,
+        chain,
+        standings,
+    )?;
     Ok(())
 }
 

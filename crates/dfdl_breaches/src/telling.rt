@@ -4,6 +4,7 @@ ghost use Rattle.dfdl_components.specs.Rules.{loading_rules, AllKeep};
 ghost use Rattle.dfdl_components.specs.Sites.{IsSite};
 ghost use Rattle.dfdl_chains.specs.Chains.{chain_sites};
 ghost use Rattle.dfdl_chains.specs.Settings.{settings_at};
+ghost use Rattle.dfdl_checks.specs.Representations.{no_empty};
 ghost use Rattle.dfdl_checks.specs.Tests.{patterns_of};
 ghost use Rattle.dfdl_breaches.specs.Builds.{AreBuiltInPart, AreJudged, always, never, patterns_at};
 ghost use Rattle.dfdl_breaches.specs.BuildsShown.{IsPushed, IsToldBy};
@@ -33,8 +34,11 @@ use crate::settings::{are_some, settings_for, settings_of, settings_where};
 use crate::sites::sites_of;
 use crate::standing::{standing_at, standings_of};
 use crate::test_list::TestList;
-use dfdl_chains::{chain_sites, facts_at, is_component, kind_at};
-use dfdl_checks::{Markup, OtherRepresentations, Purpose, Standing, Subject, bit_order, kind_for};
+use dfdl_chains::{Setter, chain_sites, facts_at, is_component, kind_at};
+use dfdl_checks::{
+    EmptyRepresentation, KeyList, Markup, OtherRepresentations, Purpose, Standing, Subject,
+    bit_order, kind_for,
+};
 use dfdl_components::{Schema, Site};
 use dfdl_edge::Patterns;
 use dfdl_forms::BitOrder;
@@ -85,7 +89,7 @@ fn judged_by<'p, 'e, 's, P: Patterns>(
     standing: Standing,
     sites: &[Site],
     own: &'p Gathered<'e, 's>,
-    settings: Vec<Site>,
+    settings: Vec<Setter>,
     patterns: &mut P,
 ) -> Result<Judgement, AllocError>
     requires kept { AreKept schema.now kept.now }
@@ -193,6 +197,17 @@ fn judgement<'s, P: Patterns>(
     )
 }
 
+// No empty representation.
+fn no_empty() -> EmptyRepresentation
+    ensures { result ≡ no_empty }
+{
+    EmptyRepresentation {
+        empty: None,
+        refuses_empty: false,
+        are_several: false,
+    }
+}
+
 // Nothing is told of what is no component.
 fn nothing_told(alloc: Global) -> Judgement
     ensures { result ≡ no_judgement }
@@ -210,9 +225,8 @@ fn nothing_told(alloc: Global) -> Judgement
         prefix: None,
         others: OtherRepresentations {
             nil: None,
-            empty: None,
-            refuses_empty: false,
-            are_several: false,
+            required: no_empty(),
+            where_tried: no_empty(),
         },
         occurs: Occurs {
             least: 1,
@@ -227,6 +241,8 @@ fn nothing_told(alloc: Global) -> Judgement
         calculation: None,
         measure: None,
         count: None,
+        key: None,
+        keys: KeyList::from_vec(Vec::new(alloc)),
         hidden: None,
     }
 }

@@ -11,7 +11,7 @@ use Rattle.dfdl_components.specs.Globals.{site}
 use Rattle.dfdl_components.specs.Sites.{IsSite, nodes_of, role_of}
 use Rattle.dfdl_chains.specs.Chains.{chain_sites}
 use Rattle.dfdl_chains.specs.Facts.{is_annotation_at}
-use Rattle.dfdl_chains.specs.Settings.{is_setting, is_setting_at, own_settings, setting_if, settings_at, settings_in, settings_within}
+use Rattle.dfdl_chains.specs.Settings.{IsSetterOf, is_setter, is_setter_at, own_setters, setter, setter_if, settings_at, setters_in, setters_within}
 use Rattle.dfdl_chains.specs.Tests.{IsTestOf, in_annotation, is_test, is_test_at, own_tests, test_at, test_if, tests_at, tests_in, tests_within}
 use Rattle.dfdl_chains.proofs.Within.{chain_is_within, first_holds}
 
@@ -46,15 +46,15 @@ module _ (documents : List SchemaDocument) where
   passed document element other low is =
       (low, ltb-true element (length (nodes_of documents document)) (first_holds (nat_lt element (length (nodes_of documents document))) other is))
 
-  setting_stands : (document : ℕ) → document < length documents → (element : ℕ) → All (IsSite documents) (setting_if documents document element)
-  setting_stands document low element = by (is_setting_at (nodes_of documents document) element) refl
+  setter_stands : (opens : Bool) (document : ℕ) → document < length documents → (element : ℕ) → All (IsSetterOf documents) (setter_if opens documents document element)
+  setter_stands opens document low element = by (is_setter_at opens (nodes_of documents document) element) refl
     where
-      by : (test : Bool) → is_setting_at (nodes_of documents document) element ≡ test
-          → All (IsSite documents) (if test then site document element ∷ [] else [])
+      by : (test : Bool) → is_setter_at opens (nodes_of documents document) element ≡ test
+          → All (IsSetterOf documents) (if test then setter opens (site document element) ∷ [] else [])
       by true is =
-          All-cons (IsSite documents) (site document element) []
-          (passed document element (is_setting (role_of documents (site document element))) low is) (All-nil (IsSite documents))
-      by false is = All-nil (IsSite documents)
+          All-cons (IsSetterOf documents) (setter opens (site document element)) []
+          (passed document element (is_setter opens (role_of documents (site document element))) low is) (All-nil (IsSetterOf documents))
+      by false is = All-nil (IsSetterOf documents)
 
   test_stands : (document : ℕ) → document < length documents → (element : ℕ) → All (IsTestOf documents) (test_if documents document element)
   test_stands document low element = by (is_test_at (nodes_of documents document) element) refl
@@ -66,12 +66,12 @@ module _ (documents : List SchemaDocument) where
           (passed document element (is_test (role_of documents (site document element))) low is) (All-nil (IsTestOf documents))
       by false is = All-nil (IsTestOf documents)
 
-  own_settings_stand : (own : Site) → IsSite documents own → All (IsSite documents) (own_settings documents own)
-  own_settings_stand own within =
+  own_setters_stand : (opens : Bool) (own : Site) → IsSite documents own → All (IsSetterOf documents) (own_setters opens documents own)
+  own_setters_stand opens own within =
       let nodes : List Node = nodes_of documents own.document in
-      each_found (IsSite documents) (settings_within documents own.document)
-      (annotated (IsSite documents) (settings_in documents own.document)
-      (annotated (IsSite documents) (setting_if documents own.document) (setting_stands own.document within.0) nodes) nodes)
+      each_found (IsSetterOf documents) (setters_within opens documents own.document)
+      (annotated (IsSetterOf documents) (setters_in opens documents own.document)
+      (annotated (IsSetterOf documents) (setter_if opens documents own.document) (setter_stands opens own.document within.0) nodes) nodes)
       (node_at nodes own.element).children
 
   own_tests_stand : (own : Site) → IsSite documents own → All (IsTestOf documents) (own_tests documents own)
@@ -82,11 +82,18 @@ module _ (documents : List SchemaDocument) where
       (annotated (IsTestOf documents) (test_if documents own.document) (test_stands own.document within.0) nodes) nodes)
       (node_at nodes own.element).children
 
-  -- the setVariable elements of a component are elements of the documents
-  pub settings_stand : (own : Site) → IsSite documents own → All (IsSite documents) (settings_at documents own)
+  setters_stand : (opens : Bool) (own : Site) → IsSite documents own
+      → All (IsSetterOf documents) (flat_map (own_setters opens documents) (chain_sites documents own))
+  setters_stand opens own within =
+      all_found (IsSite documents) (IsSetterOf documents) (own_setters opens documents) (own_setters_stand opens) (chain_sites documents own)
+      (chain_is_within documents own within)
+
+  -- what sets variables at a component are elements of the documents
+  pub settings_stand : (own : Site) → IsSite documents own → All (IsSetterOf documents) (settings_at documents own)
   unfolding settings_at
   settings_stand own within =
-      all_found (IsSite documents) (IsSite documents) (own_settings documents) own_settings_stand (chain_sites documents own) (chain_is_within documents own within)
+      All-append (IsSetterOf documents) (flat_map (own_setters true documents) (chain_sites documents own))
+      (flat_map (own_setters false documents) (chain_sites documents own)) (setters_stand true own within) (setters_stand false own within)
 
   -- so are its tests
   pub tests_stand : (own : Site) → IsSite documents own → All (IsTestOf documents) (tests_at documents own)

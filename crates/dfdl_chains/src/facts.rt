@@ -126,7 +126,7 @@ fn is_local(role: Role) -> bool
 }
 
 // A newVariableInstance.
-fn is_opening(role: Role) -> bool
+pub(crate) fn is_opening(role: Role) -> bool
     ensures { result ≡ spec.is_opening role }
 {
     match role {

@@ -35,6 +35,6 @@ pub use named_type::NamedType;
 pub use numbers::Numbers;
 pub use parts::{is_component, parts_at};
 pub use prefixes::prefix_type;
-pub use settings::{settings_at, statements_are_within};
+pub use settings::{Setter, settings_at, statements_are_within};
 pub use tests::tests_at;
 pub use typed::Typed;

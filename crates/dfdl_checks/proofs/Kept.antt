@@ -10,6 +10,7 @@ use Rattle.dfdl_checks.specs.Defaults.{is_default_not_allowed}
 use Rattle.dfdl_checks.specs.Delimiters.{is_delimiter_empty, is_delimiter_malformed, is_delimiter_not_encoded}
 use Rattle.dfdl_checks.specs.FillBytes.{is_fill_malformed, is_fill_other}
 use Rattle.dfdl_checks.specs.Flaws.{has_flaw}
+use Rattle.dfdl_checks.specs.Keys.{is_key_malformed, is_key_unfit}
 use Rattle.dfdl_checks.specs.NewLines.{is_new_line_expression, is_new_line_other}
 use Rattle.dfdl_checks.specs.NilValues.{is_nil_not_allowed}
 use Rattle.dfdl_checks.specs.Occurrences.{are_bounds_unfit}
@@ -50,6 +51,7 @@ pub record IsKept (s : Judged) : Type 0 where
   pub unbounded : is_unbounded_not_allowed s ≡ false
   pub bounds : are_bounds_unfit s ≡ false
   pub tests : are_tests_together s ≡ false
+  pub keyed : is_key_unfit s ≡ false
   pub initiated : is_initiator_missing s ≡ false
   pub calculated : is_calculation_not_allowed s ≡ false
   pub scheme : is_scheme_malformed s ≡ false
@@ -97,7 +99,8 @@ keeps-all s none =
     let unbounded_at = first-kept causes.UnboundedElement _ _ by_default_at.1 in
     let bounds_at = first-kept causes.OccurrenceBounds _ _ unbounded_at.1 in
     let tests_at = first-kept causes.TestsTogether _ _ bounds_at.1 in
-    let initiated_at = first-kept causes.NoInitiator _ _ tests_at.1 in
+    let keyed_at = first-kept causes.BranchKey _ _ tests_at.1 in
+    let initiated_at = first-kept causes.NoInitiator _ _ keyed_at.1 in
     let calculated_at = first-kept causes.CalculationNotAllowed _ _ initiated_at.1 in
     let scheme_at = first-kept causes.EscapeScheme _ _ calculated_at.1 in
     record {
@@ -129,6 +132,7 @@ keeps-all s none =
       unbounded = itself-kept _ s.place unbounded_at.0;
       bounds = itself-kept _ s.place bounds_at.0;
       tests = itself-kept _ s.place tests_at.0;
+      keyed = itself-kept _ s.place keyed_at.0;
       initiated = itself-kept _ s.place initiated_at.0;
       calculated = itself-kept _ s.place calculated_at.0;
       scheme = itself-kept _ s.place scheme_at.0;
@@ -141,8 +145,8 @@ first-of-two a b none = grind (arith, none)
 -- the literals of texts are some
 pub literals-kept : (s : Judged) → IsKept s → (is_pad_malformed s || is_separator_malformed s || are_truth_texts_malformed s) ≡ false
 literals-kept s kept =
-    others (is_pad_malformed s) (is_separator_malformed s) (is_fill_malformed s) (are_truth_texts_malformed s) (is_nil_malformed s) (is_delimiter_malformed s)
-    kept.literals
+    others (is_pad_malformed s) (is_separator_malformed s) (is_fill_malformed s) (are_truth_texts_malformed s) (is_nil_malformed s)
+    (is_delimiter_malformed s || is_key_malformed s) kept.literals
   where
     others : (a b c d e f : Bool) → (a || b || c || d || e || f) ≡ false → (a || b || d) ≡ false
     others a b c d e f none = grind (arith, none)

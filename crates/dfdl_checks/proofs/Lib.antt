@@ -21,6 +21,7 @@ pub mod Sound
 pub mod SoundPrefixes
 pub mod SoundPatterns
 pub mod SoundMeasures
+pub mod SoundKeys
 pub mod PatternBounds
 pub mod SoundNils
 pub mod DelimiterTexts

@@ -14,6 +14,7 @@ use Rattle.dfdl_checks.proofs.Built.{built-at, flawless-by}
 use Rattle.dfdl_checks.proofs.Flawless.{HasNoFlaw}
 use Rattle.dfdl_checks.proofs.Kept.{IsKept, keeps-all}
 use Rattle.dfdl_checks.proofs.SoundBoxes.{encoding-told}
+use Rattle.dfdl_checks.specs.Keys.{is_key_malformed}
 use Rattle.dfdl_checks.specs.Delimiters.{IsDelimiterOf, IsSeparatorOf, delimiter_at, delimiter_by, delimiter_of, delimiter_told, delimiters_for, delimiters_of, delimiting_by, has_delimiter, is_delimited, is_delimiter, is_delimiter_malformed, is_delimiter_not_encoded, is_empty_text, is_malformed_text, is_none, is_separated, lacks_text, no_delimiters, separating_by, separator_at, separator_of}
 use Rattle.dfdl_checks.specs.Encodings.{encoding_told}
 use Rattle.dfdl_checks.specs.FillBytes.{is_fill_malformed}
@@ -89,10 +90,10 @@ module _ (s : Judged) (kept : IsKept s) where
   -- no delimiter is malformed
   well-formed : is_delimiter_malformed s ≡ false
   well-formed =
-      last (is_pad_malformed s) (is_separator_malformed s) (is_fill_malformed s) (are_truth_texts_malformed s) (is_nil_malformed s) _ kept.literals
+      last (is_pad_malformed s) (is_separator_malformed s) (is_fill_malformed s) (are_truth_texts_malformed s) (is_nil_malformed s) _ (is_key_malformed s) kept.literals
     where
-      last : (a b c d e f : Bool) → (a || b || c || d || e || f) ≡ false → f ≡ false
-      last a b c d e f none = grind (arith, none)
+      last : (a b c d e f g : Bool) → (a || b || c || d || e || (f || g)) ≡ false → f ≡ false
+      last a b c d e f g none = grind (arith, none)
 
   -- the encoding has its characters
   well-encoded : is_delimiter_not_encoded s ≡ false

@@ -20,6 +20,7 @@ use Rattle.dfdl_checks.proofs.Primitives.{IsOf, of-component}
 use Rattle.dfdl_checks.proofs.Sound.{has-primitive}
 use Rattle.dfdl_checks.proofs.SoundBoxes.{encoding-told, some-mapped}
 use Rattle.dfdl_checks.proofs.SoundPads.{some-single}
+use Rattle.dfdl_checks.specs.Keys.{is_key_malformed}
 use Rattle.dfdl_checks.specs.Delimiters.{is_delimiter_malformed}
 use Rattle.dfdl_checks.specs.Encodings.{encoding_told}
 use Rattle.dfdl_checks.specs.Judged.{Judged}
@@ -94,7 +95,8 @@ module _ (s : Judged) (kept : IsKept s) (nillable : is_nillable s ≡ true) wher
   well-formed : (((is_nil_by_literals s || is_nil_by_value s) && are_literals_malformed (told_at s (codes "nilValue")))
       || (is_nil_by_character s && is_malformed (nil_character s))) ≡ false
   well-formed =
-      fifth (is_pad_malformed s) (is_separator_malformed s) (is_fill_malformed s) (are_truth_texts_malformed s) _ (is_delimiter_malformed s) kept.literals
+      fifth (is_pad_malformed s) (is_separator_malformed s) (is_fill_malformed s) (are_truth_texts_malformed s) _
+      (is_delimiter_malformed s || is_key_malformed s) kept.literals
     where
       fifth : (a b c d e f : Bool) → (a || b || c || d || e || f) ≡ false → e ≡ false
       fifth a b c d e f none = grind (arith, none)

@@ -99,25 +99,45 @@ module _ (patterns : ArePatternsBounded) (s : Judged) (q : Primitive) (written :
   empty-of-value size true None few is = absurd (none-some _ is)
   empty-of-value size false o few is = absurd (none-some _ is)
 
-  empty-of-kind : (kind : Kind) (o : Option Primitive) → primitive_of s ≡ o → (representations_by s kind o).empty ≡ Some q → IsPrimitive q
-  empty-of-kind (SimpleElement simple) (Some p) told is =
-      empty-of-value (size_of p) (can_be_empty s (size_of p)) (told_of_nothing s simple) (size-bounded p (bounded patterns s p told)) is
-  empty-of-kind (SimpleElement simple) None told is = absurd (none-some _ is)
-  empty-of-kind ComplexElement o told is = absurd (none-some _ is)
-  empty-of-kind UncarriedElement o told is = absurd (none-some _ is)
-  empty-of-kind (CalculatedElement simple) o told is = absurd (none-some _ is)
-  empty-of-kind Sequence o told is = absurd (none-some _ is)
-  empty-of-kind HiddenSequence o told is = absurd (none-some _ is)
-  empty-of-kind Choice o told is = absurd (none-some _ is)
-  empty-of-kind (PrefixNumber simple) o told is = absurd (none-some _ is)
+  required-of-kind : (kind : Kind) (o : Option Primitive) → primitive_of s ≡ o → (representations_by s kind o).required.empty ≡ Some q → IsPrimitive q
+  required-of-kind (SimpleElement simple) (Some p) told is =
+      empty-of-value (size_of p) (can_be_empty s (size_of p)) (told_of_nothing s simple s.facts.default) (size-bounded p (bounded patterns s p told)) is
+  required-of-kind (SimpleElement simple) None told is = absurd (none-some _ is)
+  required-of-kind ComplexElement o told is = absurd (none-some _ is)
+  required-of-kind UncarriedElement o told is = absurd (none-some _ is)
+  required-of-kind (CalculatedElement simple) o told is = absurd (none-some _ is)
+  required-of-kind Sequence o told is = absurd (none-some _ is)
+  required-of-kind HiddenSequence o told is = absurd (none-some _ is)
+  required-of-kind Choice o told is = absurd (none-some _ is)
+  required-of-kind (PrefixNumber simple) o told is = absurd (none-some _ is)
 
-  empty-for : (purpose : Purpose) → (representations_for purpose s).empty ≡ Some q → IsPrimitive q
-  empty-for Parsing is = empty-of-kind s.kind (primitive_of s) refl is
-  empty-for Unparsing is = absurd (none-some _ is)
+  required-for : (purpose : Purpose) → (representations_for purpose s).required.empty ≡ Some q → IsPrimitive q
+  required-for Parsing is = required-of-kind s.kind (primitive_of s) refl is
+  required-for Unparsing is = absurd (none-some _ is)
 
--- the empty representation does where its value is one of characters
-pub empty-bounded : ArePatternsBounded → (s : Judged) (q : Primitive) → (representations_of s).empty ≡ Some q → IsValueWritten q → IsPrimitive q
-empty-bounded patterns s q is written = empty-for patterns s q written s.purpose is
+  tried-of-kind : (kind : Kind) (o : Option Primitive) → primitive_of s ≡ o → (representations_by s kind o).where_tried.empty ≡ Some q → IsPrimitive q
+  tried-of-kind (SimpleElement simple) (Some p) told is =
+      empty-of-value (size_of p) (can_be_empty s (size_of p)) (told_of_nothing s simple None) (size-bounded p (bounded patterns s p told)) is
+  tried-of-kind (SimpleElement simple) None told is = absurd (none-some _ is)
+  tried-of-kind ComplexElement o told is = absurd (none-some _ is)
+  tried-of-kind UncarriedElement o told is = absurd (none-some _ is)
+  tried-of-kind (CalculatedElement simple) o told is = absurd (none-some _ is)
+  tried-of-kind Sequence o told is = absurd (none-some _ is)
+  tried-of-kind HiddenSequence o told is = absurd (none-some _ is)
+  tried-of-kind Choice o told is = absurd (none-some _ is)
+  tried-of-kind (PrefixNumber simple) o told is = absurd (none-some _ is)
+
+  tried-for : (purpose : Purpose) → (representations_for purpose s).where_tried.empty ≡ Some q → IsPrimitive q
+  tried-for Parsing is = tried-of-kind s.kind (primitive_of s) refl is
+  tried-for Unparsing is = absurd (none-some _ is)
+
+-- the empty representation of a required occurrence does where its value is one of characters
+pub required-bounded : ArePatternsBounded → (s : Judged) (q : Primitive) → (representations_of s).required.empty ≡ Some q → IsValueWritten q → IsPrimitive q
+required-bounded patterns s q is written = required-for patterns s q written s.purpose is
+
+-- so does that of an occurrence that is tried
+pub tried-bounded : ArePatternsBounded → (s : Judged) (q : Primitive) → (representations_of s).where_tried.empty ≡ Some q → IsValueWritten q → IsPrimitive q
+tried-bounded patterns s q is written = tried-for patterns s q written s.purpose is
 
 -- for unparsing there is none
 pub no-others : (s : Judged) → s.purpose ≡ Unparsing → representations_of s ≡ no_representations

@@ -11,7 +11,7 @@ use Rattle.dfdl_checks.specs.Subjects.{is_any_element, is_bare, is_boxed, is_del
 use Rattle.dfdl_checks.specs.Judged.{Judged}
 use Rattle.dfdl_checks.specs.Tests.{is_tested}
 use Rattle.dfdl_checks.specs.declared.applicability.Bearers.{Bearers}
-use Rattle.dfdl_checks.specs.declared.applicability.Bearers.TheVariants.{EveryComponent, FramedComponents, Elements, OtherElements, SimpleElements, NillableElements, TextNillables, RepresentedElements, BoxedElements, Strings, PaddedStrings, PaddedBooleans, PaddedNumbers, BinaryNumbers, BinaryBooleans, OrderedBinaries, ExplicitBinaries, ExplicitBoxes, ImplicitStrings, PrefixedElements, Texts, TextNumbers, TextBooleans, StandardNumbers, ZonedNumbers, PatternNumbers, LooseTexts, PackedNumbers, BinaryDecimals, PatternElements, DelimitedBytes, DelimitedComponents, Groups, Sequences, SeparatedSequences, EmptySequences, Choices, CountedElements, CountedByExpression, TestedComponents}
+use Rattle.dfdl_checks.specs.declared.applicability.Bearers.TheVariants.{EveryComponent, FramedComponents, Elements, OtherElements, SimpleElements, NillableElements, TextNillables, RepresentedElements, BoxedElements, Strings, PaddedStrings, PaddedBooleans, PaddedNumbers, BinaryNumbers, BinaryBooleans, OrderedBinaries, ExplicitBinaries, ExplicitBoxes, ImplicitStrings, PrefixedElements, Texts, TextNumbers, TextBooleans, StandardNumbers, ZonedNumbers, PatternNumbers, LooseTexts, PackedNumbers, BinaryDecimals, PatternElements, DelimitedBytes, DelimitedComponents, Groups, Sequences, SeparatedSequences, EmptySequences, Choices, CountedElements, CountedByExpression, TestedComponents, KeyedBranches}
 
 -- a binary number or boolean whose bytes have an order: of a type with more than 8 bits, or with its least significant bits
 -- first
@@ -60,3 +60,4 @@ is_bearer Choices subject = is_choice subject.kind
 is_bearer CountedElements subject = is_counted subject
 is_bearer CountedByExpression subject = is_counted_by_expression subject
 is_bearer TestedComponents subject = is_tested subject
+is_bearer KeyedBranches subject = subject.standing.needs_key

@@ -1,5 +1,5 @@
 -- The default values of elements ('DFDL Data Syntax Grammar', on the empty representation).
-use Rattle.std.specs.Prelude.{ℕ, List, [], Bool, true, false, not, Option, Some, None, is_some, option_and_then, Ok, Err, if◌then◌else◌}
+use Rattle.std.specs.Prelude.{ℕ, List, [], Bool, true, false, not, Option, Some, None, is_some, option_and_then, Ok, Err}
 use Rattle.std.specs.Option.{option_map_or, option_or}
 use Rattle.dfdl_forms.specs.Types.{form_of}
 use Rattle.dfdl_forms.specs.declared.simple.Form.{Form}
@@ -9,7 +9,6 @@ use Rattle.dfdl_value.specs.ReadValues.{Reading, reading_of}
 use Rattle.dfdl_value.specs.declared.value.Value.{Value}
 use Rattle.dfdl_value.specs.declared.value.Value.TheVariants.{Text, Bytes}
 use Rattle.dfdl_checks.specs.Judged.{Judged}
-use Rattle.dfdl_checks.specs.Occurrences.{is_required}
 use Rattle.dfdl_checks.specs.declared.subject.Kind.{Kind}
 use Rattle.dfdl_checks.specs.declared.subject.Kind.TheVariants.{ComplexElement, SimpleElement}
 
@@ -38,10 +37,6 @@ nothing_of Characters = Some (Text [])
 nothing_of Octets = Some (Bytes [])
 nothing_of _ = None
 
--- the text of the default that the element takes: an occurrence that is tried takes none, so there is none where none is required
-abbrev pub default_of : Judged → Option (List ℕ)
-default_of subject = if is_required subject then subject.facts.default else None
-
--- what no bits stand for at an element of the type: its default, else no text or no bytes
-abbrev pub empty_value : Judged → Simple → Option Value
-empty_value subject simple = option_or (option_and_then (value_of simple) (default_of subject)) (nothing_of (form_of simple))
+-- what no bits stand for at an occurrence of the type that takes a default of this text, if one: the default, else no text or no bytes
+abbrev pub empty_value : Option (List ℕ) → Simple → Option Value
+empty_value default simple = option_or (option_and_then (value_of simple) default) (nothing_of (form_of simple))

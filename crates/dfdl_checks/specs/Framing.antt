@@ -77,6 +77,8 @@ alignment_of subject =
 abbrev pub fill_of : Judged → Framing
 fill_of subject = record {
   before = no_fill.before;
+  openings = no_fill.openings;
+  settings = no_fill.settings;
   leading_skip = skip_of subject (codes "leadingSkip");
   alignment = alignment_of subject;
   initiator = None;

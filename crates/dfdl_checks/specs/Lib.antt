@@ -21,6 +21,7 @@ pub mod NumberTexts
 pub mod BooleanTexts
 pub mod Applying
 pub mod Calculations
+pub mod Keys
 pub mod Table
 pub mod TableShown
 pub mod Flaws

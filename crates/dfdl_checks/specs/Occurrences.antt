@@ -1,6 +1,6 @@
 -- How often elements occur ('Arrays and Optional Elements').
-use Rattle.std.specs.Prelude.{ℕ, ◌==◌, ◌&&◌, ◌||◌, ◌-◌, Bool, true, false, not, min, nat_lt, Option, Some, None, codes, if◌then◌else◌}
-use Rattle.dfdl_terms.specs.Occurs.{has_tried, occurs_once, required_times}
+use Rattle.std.specs.Prelude.{ℕ, ◌==◌, ◌&&◌, ◌||◌, ◌-◌, Bool, true, false, not, min, Option, Some, None, codes, if◌then◌else◌}
+use Rattle.dfdl_terms.specs.Occurs.{occurs_once, required_times}
 use Rattle.dfdl_terms.specs.declared.occurs.Occurs.{Occurs}
 use Rattle.dfdl_checks.specs.Judged.{Judged}
 use Rattle.dfdl_checks.specs.Subjects.{is_element, is_told}
@@ -106,11 +106,3 @@ is_parsed_for Unparsing subject = false
 -- the same for the component's purpose
 abbrev pub is_count_parsed : Judged → Bool
 is_count_parsed subject = is_parsed_for subject.purpose subject
-
--- some of the component's occurrences are required
-abbrev pub is_required : Judged → Bool
-is_required subject = nat_lt 0 (occurrences_of subject).least
-
--- some of the component's occurrences are tried
-abbrev pub is_tried : Judged → Bool
-is_tried subject = has_tried (occurrences_of subject)

@@ -16,7 +16,7 @@ use Rattle.dfdl_terms.specs.declared.text.TextSize.{TextSize}
 use Rattle.dfdl_terms.specs.declared.text.TextSize.TheVariants.{Bits, Characters, Delimited}
 use Rattle.dfdl_value.specs.declared.value.Value.{Value}
 use Rattle.dfdl_value.specs.declared.value.Value.TheVariants as values
-use Rattle.dfdl_checks.specs.Defaults.{default_of, empty_value}
+use Rattle.dfdl_checks.specs.Defaults.{empty_value}
 use Rattle.dfdl_checks.specs.Delimiters.{is_empty_delimited}
 use Rattle.dfdl_checks.specs.Judged.{Judged}
 use Rattle.dfdl_checks.specs.Nils.{is_nil_by_value, nil_form_of}
@@ -28,6 +28,7 @@ use Rattle.dfdl_checks.specs.declared.purpose.Purpose.{Purpose}
 use Rattle.dfdl_checks.specs.declared.purpose.Purpose.TheVariants.{Parsing, Unparsing}
 use Rattle.dfdl_checks.specs.declared.subject.Kind.{Kind}
 use Rattle.dfdl_checks.specs.declared.subject.Kind.TheVariants.{SimpleElement}
+use Rattle.dfdl_checks.specs.declared.tried.EmptyRepresentation.{EmptyRepresentation}
 use Rattle.dfdl_checks.specs.declared.tried.OtherRepresentations.{OtherRepresentations}
 
 -- what is trimmed before a text is compared with those of nil: pad characters before literals, nothing before one character
@@ -83,34 +84,49 @@ default_in size value = Default (record { size = size; value = value })
 abbrev pub no_text : Bool → Option Value
 no_text is_delimited = if is_delimited then Some (values.Text []) else None
 
--- what is told of no bits at an element of the type: the value that they stand for, else no text, where a delimiter shows that it is empty
-abbrev pub told_of_nothing : Judged → Simple → Option Value
-told_of_nothing subject simple = option_or (empty_value subject simple) (no_text (is_empty_delimited subject))
+-- what is told of no bits at an occurrence of the type that takes this default, if one: the value that they stand for, else no text, where a
+-- delimiter shows that it is empty
+abbrev pub told_of_nothing : Judged → Simple → Option (List ℕ) → Option Value
+told_of_nothing subject simple default = option_or (empty_value default simple) (no_text (is_empty_delimited subject))
 
--- The empty representation of an element with this size, where no bits stand for a value or a delimiter shows that it is empty. A box
--- that can't be empty has none: it would always give way to the normal one.
-abbrev pub empty_of : Judged → Simple → TextSize → Option Primitive
-empty_of subject simple size = if can_be_empty subject size then option_map (default_in size) (told_of_nothing subject simple) else None
+-- The empty representation of an occurrence with this size and this default, where no bits stand for a value or a delimiter shows that it is
+-- empty. A box that can't be empty has none: it would always give way to the normal one.
+abbrev pub empty_of : Judged → Simple → TextSize → Option (List ℕ) → Option Primitive
+empty_of subject simple size default =
+    if can_be_empty subject size then option_map (default_in size) (told_of_nothing subject simple default) else None
 
--- the element is refused where its empty representation is found: a delimiter shows it, and no bits stand for no value
-abbrev pub refuses_empty : Judged → Simple → TextSize → Bool
-refuses_empty subject simple size = can_be_empty subject size && is_empty_delimited subject && not (is_some (empty_value subject simple))
+-- the occurrence is refused where its empty representation is found: a delimiter shows it, and no bits stand for no value
+abbrev pub refuses_empty : Judged → Simple → TextSize → Option (List ℕ) → Bool
+refuses_empty subject simple size default =
+    can_be_empty subject size && is_empty_delimited subject && not (is_some (empty_value default simple))
 
--- more than one representation can be tried, though it may always give way
-abbrev pub are_several : Judged → Bool
-are_several subject = is_nillable subject || is_string_or_bytes subject.kind || is_some (default_of subject) || is_empty_delimited subject
+-- more than one representation can be tried of an occurrence with this default, though it may always give way
+abbrev pub are_several : Judged → Option (List ℕ) → Bool
+are_several subject default = is_nillable subject || is_string_or_bytes subject.kind || is_some default || is_empty_delimited subject
+
+-- no empty representation
+abbrev pub no_empty : EmptyRepresentation
+no_empty = record { empty = None; refuses_empty = false; are_several = false }
+
+-- the empty representation of an occurrence of the type with this size and this default
+abbrev pub empty_with : Judged → Simple → TextSize → Option (List ℕ) → EmptyRepresentation
+empty_with subject simple size default = record {
+  empty = empty_of subject simple size default;
+  refuses_empty = refuses_empty subject simple size default;
+  are_several = are_several subject default;
+}
 
 -- no representation besides the normal one
 abbrev pub no_representations : OtherRepresentations
-no_representations = record { nil = None; empty = None; refuses_empty = false; are_several = false }
+no_representations = record { nil = None; required = no_empty; where_tried = no_empty }
 
--- the representations of an element of the type with this primitive
+-- the representations of an element of the type with this primitive: a required occurrence takes the element's default, one that is tried takes
+-- none
 abbrev pub representations_with : Judged → Simple → Primitive → OtherRepresentations
 representations_with subject simple primitive = record {
   nil = nil_of subject simple primitive;
-  empty = empty_of subject simple (size_of primitive);
-  refuses_empty = refuses_empty subject simple (size_of primitive);
-  are_several = are_several subject;
+  required = empty_with subject simple (size_of primitive) subject.facts.default;
+  where_tried = empty_with subject simple (size_of primitive) None;
 }
 
 -- the same of an element of a kind with this primitive, if it has one

@@ -17,6 +17,7 @@ use Rattle.dfdl_checks.specs.Defaults.{is_default_not_allowed}
 use Rattle.dfdl_checks.specs.Delimiters.{is_delimiter_empty, is_delimiter_malformed, is_delimiter_not_encoded}
 use Rattle.dfdl_checks.specs.Encodings.{encoding_told, is_other_encoding}
 use Rattle.dfdl_checks.specs.FillBytes.{is_fill_malformed, is_fill_other}
+use Rattle.dfdl_checks.specs.Keys.{is_key_malformed, is_key_unfit, is_keyed_and_initiated}
 use Rattle.dfdl_checks.specs.Lengths.{constant_length, size_within}
 use Rattle.dfdl_checks.specs.NewLines.{is_new_line_expression, is_new_line_other}
 use Rattle.dfdl_checks.specs.NilValues.{is_nil_not_allowed}
@@ -28,7 +29,7 @@ use Rattle.dfdl_checks.specs.Pads.{is_malformed, is_other, is_other_told, is_out
 use Rattle.dfdl_forms.specs.NumberForms.{are_plain}
 use Rattle.dfdl_forms.specs.declared.number_pattern.NumberPattern.{NumberPattern}
 use Rattle.dfdl_checks.specs.Packed.{codes_told, nibbles_within, rep_of}
-use Rattle.dfdl_checks.specs.Occurrences.{are_bounds_unfit, is_counted_by_expression, is_once, is_required, is_tried}
+use Rattle.dfdl_checks.specs.Occurrences.{are_bounds_unfit, is_once}
 use Rattle.dfdl_checks.specs.Prefixes.{is_name_told, is_no_prefix_type, is_not_whole, prefix_subject}
 use Rattle.dfdl_checks.specs.Subjects.{is_boxed, is_delimited_bytes, is_element, is_choice, is_bare, is_binary, is_binary_boolean, is_binary_number, is_decimal, is_explicit, is_explicit_binary, is_packed, is_prefixed, is_simple, is_standard, is_text, is_text_boolean, is_text_number, is_told, is_zoned, told_at, value_bits}
 use Rattle.dfdl_checks.specs.Standings.{is_initiator_missing, is_unbounded_not_allowed}
@@ -53,14 +54,9 @@ abbrev pub is_later_group : Purpose → Kind → Bool
 is_later_group Parsing kind = false
 is_later_group Unparsing kind = is_choice kind
 
--- some of the component's occurrences are required, which take a default, and others tried, which don't; or an expression counts them
-abbrev pub are_defaults_apart : Judged → Bool
-are_defaults_apart subject = (is_required subject && is_tried subject) || is_counted_by_expression subject
-
--- for parsing, an element with a default of whose occurrences some are required, which take it, and others tried, which don't, or
--- whose occurrences an expression counts; for unparsing, one that does not occur exactly once, that may be nil or that has a default
+-- for unparsing, an element that does not occur exactly once, that may be nil or that has a default
 abbrev pub is_later_element : Purpose → Judged → Bool
-is_later_element Parsing subject = is_some subject.facts.default && are_defaults_apart subject
+is_later_element Parsing subject = false
 is_later_element Unparsing subject = not (is_once subject.facts.bounds) || subject.facts.is_nillable || is_some subject.facts.default
 
 -- a component of a kind that is built later, whatever its properties are but for the kind of its count
@@ -69,9 +65,10 @@ is_later_component subject =
     is_later_group subject.purpose subject.kind || has_later_type subject.purpose subject.kind || has_later_statements subject.purpose subject
     || (is_element subject.kind && is_later_element subject.purpose subject)
 
--- 3: the component, or the value of a property that applies to it, is of a form that is built later
+-- 3: the component, or the value of a property that applies to it, is of a form that is built later; or it is a choice by a key whose
+-- content is initiated
 abbrev pub is_unbuilt : Judged → Bool
-is_unbuilt subject = is_later_component subject || has_flaw flaws.Unbuilt subject
+is_unbuilt subject = is_later_component subject || (is_keyed_and_initiated subject || has_flaw flaws.Unbuilt subject)
 
 -- 6: where the component's chain first gives a property of the profile that is given again
 abbrev pub property_twice : Judged → Option Place
@@ -141,7 +138,7 @@ are_truth_texts_malformed subject =
 abbrev pub is_literal_malformed : Judged → Bool
 is_literal_malformed subject =
     is_pad_malformed subject || is_separator_malformed subject || is_fill_malformed subject || are_truth_texts_malformed subject || is_nil_malformed subject
-    || is_delimiter_malformed subject
+    || (is_delimiter_malformed subject || is_key_malformed subject)
 
 -- 13: an element of a simple type that is not carried
 abbrev pub is_type_not_carried : Kind → Bool
@@ -361,6 +358,7 @@ rules =
     ∷ at_itself causes.UnboundedElement is_unbounded_not_allowed
     ∷ at_itself causes.OccurrenceBounds are_bounds_unfit
     ∷ at_itself causes.TestsTogether are_tests_together
+    ∷ at_itself causes.BranchKey is_key_unfit
     ∷ at_itself causes.NoInitiator is_initiator_missing
     ∷ at_itself causes.CalculationNotAllowed is_calculation_not_allowed
     ∷ at_itself causes.EscapeScheme is_scheme_malformed

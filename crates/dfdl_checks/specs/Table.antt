@@ -1,10 +1,9 @@
 -- Which properties are asked of which components, and which of their values are built. Each property of the profile that
--- is not here applies to components of later forms alone: to the least length of strings, and to the branches of choices that are
--- dispatched by a key; but outputNewLine, which NewLines judges.
+-- is not here applies to components of later forms alone, as to the least length of strings; but outputNewLine, which NewLines judges.
 use Rattle.std.specs.Prelude.{ℕ, List, [], ◌∷◌, Bool, true, false, codes}
 use Rattle.dfdl_checks.specs.Values.{is_among, is_number, is_within}
 use Rattle.dfdl_checks.specs.declared.applicability.Bearers.{Bearers}
-use Rattle.dfdl_checks.specs.declared.applicability.Bearers.TheVariants.{EveryComponent, FramedComponents, Elements, OtherElements, SimpleElements, NillableElements, TextNillables, RepresentedElements, BoxedElements, Strings, PaddedStrings, PaddedBooleans, PaddedNumbers, Texts, TextNumbers, TextBooleans, StandardNumbers, ZonedNumbers, PatternNumbers, LooseTexts, BinaryNumbers, BinaryBooleans, OrderedBinaries, ExplicitBinaries, ExplicitBoxes, ImplicitStrings, PrefixedElements, PackedNumbers, BinaryDecimals, PatternElements, DelimitedBytes, DelimitedComponents, Groups, Sequences, SeparatedSequences, EmptySequences, Choices, CountedElements, CountedByExpression, TestedComponents}
+use Rattle.dfdl_checks.specs.declared.applicability.Bearers.TheVariants.{EveryComponent, FramedComponents, Elements, OtherElements, SimpleElements, NillableElements, TextNillables, RepresentedElements, BoxedElements, Strings, PaddedStrings, PaddedBooleans, PaddedNumbers, Texts, TextNumbers, TextBooleans, StandardNumbers, ZonedNumbers, PatternNumbers, LooseTexts, BinaryNumbers, BinaryBooleans, OrderedBinaries, ExplicitBinaries, ExplicitBoxes, ImplicitStrings, PrefixedElements, PackedNumbers, BinaryDecimals, PatternElements, DelimitedBytes, DelimitedComponents, Groups, Sequences, SeparatedSequences, EmptySequences, Choices, CountedElements, CountedByExpression, TestedComponents, KeyedBranches}
 use Rattle.dfdl_checks.specs.declared.purpose.Purpose.{Purpose}
 use Rattle.dfdl_checks.specs.declared.purpose.Purpose.TheVariants.{Parsing, Unparsing}
 
@@ -96,7 +95,7 @@ applicability_table =
     ∷ applies (codes "ignoreCase") DelimitedComponents EveryValue
     ∷ applies (codes "sequenceKind") Sequences (word (codes "ordered"))
     ∷ applies_by (codes "hiddenGroupRef") EmptySequences EveryValue NoValue
-    ∷ applies (codes "choiceDispatchKey") Choices NoValue
+    ∷ applies_by (codes "choiceDispatchKey") Choices EveryValue NoValue
     ∷ applies_by (codes "occursCountKind") CountedElements EveryValue NoValue
     ∷ applies_by (codes "occursCount") CountedByExpression EveryValue NoValue
     ∷ applies_by (codes "textTrimKind") Texts EveryValue (word (codes "none"))
@@ -133,4 +132,5 @@ applicability_table =
     ∷ applies_by (codes "inputValueCalc") Elements EveryValue NoValue
     ∷ applies_by (codes "outputValueCalc") Elements EveryValue NoValue
     ∷ applies (codes "encoding") TestedComponents EveryValue
+    ∷ applies (codes "choiceBranchKey") KeyedBranches EveryValue
     ∷ []

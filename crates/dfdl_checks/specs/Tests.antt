@@ -46,9 +46,9 @@ test_pattern test = if is_pattern_test test then test.pattern else None
 abbrev pub is_tested : Judged → Bool
 is_tested subject = list_any is_pattern_test subject.tests
 
--- a component with a newVariableInstance; for unparsing one with any statement
+-- for unparsing a component with any statement
 abbrev pub has_later_statements : Purpose → Judged → Bool
-has_later_statements Parsing subject = subject.facts.opens_instances
+has_later_statements Parsing subject = false
 has_later_statements Unparsing subject = subject.facts.opens_instances || (subject.sets_variables || nat_lt 0 (length subject.tests))
 
 -- one of the component's tests is of a pattern or of an expression and has none

@@ -76,6 +76,8 @@ pub enum Bearers {
     CountedByExpression,
     /// Components with tests of patterns.
     TestedComponents,
+    /// The branches of a choice by a key.
+    KeyedBranches,
 }
 
 /// Which values of a property are built: the others are carried later.

@@ -73,6 +73,7 @@ pub(crate) fn is_bearer(bearers: Bearers, subject: &Subject<'_, '_, '_>) -> bool
         Bearers::CountedElements => is_counted(subject),
         Bearers::CountedByExpression => is_counted_by_expression(subject),
         Bearers::TestedComponents => is_tested(subject),
+        Bearers::KeyedBranches => subject.standing.needs_key,
     }
 }
 

@@ -106,7 +106,7 @@ fn kind_where(is_calculated: bool, kind: Kind) -> Kind
 }
 
 // Whether something is told.
-fn is_given(told: Asked<'_>) -> bool
+pub(crate) fn is_given(told: Asked<'_>) -> bool
     ensures { result ≡ spec.is_given (told_by told.entry) }
 {
     match told {

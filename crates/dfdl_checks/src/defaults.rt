@@ -4,7 +4,6 @@ ghost use Rattle.dfdl_forms.specs.Types.{form_of};
 ghost use Rattle.dfdl_checks.specs.Defaults as defaults;
 ghost use Rattle.dfdl_checks.specs.JudgedShown.{judged_of};
 
-use crate::occurring::is_required;
 use crate::subject::{Kind, Subject};
 use dfdl_forms::{Form, Simple};
 use dfdl_value::{ByteValue, ReadFault, TextValue, Value};
@@ -85,26 +84,15 @@ fn nothing_of(alloc: Global, simple: Simple) -> Result<Option<Value>, AllocError
     }
 }
 
-/// The text of the default that an element takes: there is none where no occurrence is required.
-pub(crate) fn default_of<'c>(subject: &Subject<'_, '_, 'c>) -> Option<&'c str>
-    ensures { option_copied result ≡ defaults.default_of (judged_of subject.now) }
-{
-    if is_required(subject) {
-        subject.facts.default
-    } else {
-        None
-    }
-}
-
-/// What no bits stand for at an element of a type: its default, else no text or no bytes.
+/// What no bits stand for at an occurrence of a type that takes a default of this text, if one: the default, else no text or no bytes.
 pub(crate) fn empty_value(
     alloc: Global,
     simple: Simple,
-    subject: &Subject<'_, '_, '_>,
+    default: Option<&str>,
 ) -> Result<Option<Value>, AllocError>
-    ensures { IfOk result (λ value. value ≡ defaults.empty_value (judged_of subject.now) simple) }
+    ensures { IfOk result (λ value. value ≡ defaults.empty_value (option_copied default.entry) simple) }
 {
-    match default_value(alloc, simple, default_of(subject))? {
+    match default_value(alloc, simple, default)? {
         Some(value) => Ok(Some(value)),
         None => nothing_of(alloc, simple),
     }

@@ -32,6 +32,8 @@ fn fill_of(subject: &Subject<'_, '_, '_>) -> Framing
 {
     Framing {
         before: Statements { first: 0, count: 0 },
+        openings: Statements { first: 0, count: 0 },
+        settings: Statements { first: 0, count: 0 },
         leading_skip: skip_of(subject, "leadingSkip"),
         alignment: alignment_of(subject),
         initiator: None,

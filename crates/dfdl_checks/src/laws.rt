@@ -16,6 +16,7 @@ ghost use Rattle.dfdl_checks.specs.Encodings.{encoding_told};
 ghost use Rattle.dfdl_checks.specs.Forms.{IsWhole};
 ghost use Rattle.dfdl_checks.specs.Framing.{framing_of};
 ghost use Rattle.dfdl_checks.specs.Judged.{Judged};
+ghost use Rattle.dfdl_checks.specs.Keys.{is_keyed, key_expression, keys_of};
 ghost use Rattle.dfdl_checks.specs.Nils.{lacks_literals};
 ghost use Rattle.dfdl_checks.specs.Measures.{count_expression, is_measured_element, measure_of};
 ghost use Rattle.dfdl_checks.specs.Occurrences.{is_counted_by_expression, occurrences_of};
@@ -87,11 +88,13 @@ pub fn prefixes_are_bounded()
     texts_spell_one_pattern();
 }
 
-/// The nil representation of a component, whether it breaks rules or not, keeps the bounds of its form; so does the empty one,
-/// where its value is one of characters. For unparsing there is neither.
+/// The nil representation of a component, whether it breaks rules or not, keeps the bounds of its form; so do the empty ones of its
+/// occurrences, where their value is one of characters. For unparsing there is none of them.
 pub fn representations_are_bounded()
     ensures nil { (j : Judged) (p : Primitive) → (representations_of j).nil ≡ Some p → IsPrimitive p }
-    ensures empty { (j : Judged) (p : Primitive) → (representations_of j).empty ≡ Some p
+    ensures required { (j : Judged) (p : Primitive) → (representations_of j).required.empty ≡ Some p
+        → ((form : DefaultForm) → p ≡ Default form → IsWritten form.value) → IsPrimitive p }
+    ensures where_tried { (j : Judged) (p : Primitive) → (representations_of j).where_tried.empty ≡ Some p
         → ((form : DefaultForm) → p ≡ Default form → IsWritten form.value) → IsPrimitive p }
     ensures parsing { (j : Judged) → j.purpose ≡ Unparsing → representations_of j ≡ no_representations }
 {
@@ -162,9 +165,18 @@ pub fn lengths_and_counts_are_told()
     ensures uncounted { (j : Judged) → j.purpose ≡ Unparsing → count_expression j ≡ None }
 {}
 
+/// A choice that is told a key has an expression of it for parsing, and for unparsing there is none. A branch of such a choice that breaks no
+/// rule has a key, and none twice nor one of a branch before it.
+pub fn keys_are_told()
+    ensures key { (j : Judged) → j.purpose ≡ Parsing → IsTrue (is_keyed j) → IsSome (key_expression j) }
+    ensures unkeyed { (j : Judged) → j.purpose ≡ Unparsing → key_expression j ≡ None }
+    ensures some { (j : Judged) → first_breach rules j ≡ None → IsTrue j.standing.needs_key → 0 < length (keys_of j) }
+    ensures apart { (j : Judged) → first_breach rules j ≡ None → IsTrue j.standing.needs_key → j.standing.repeats_key ≡ false }
+{}
+
 /// Components whose chains give the same, name by name, and those of the types of their prefixes, have the same breach, the same
 /// primitive, the same other representations, the same fill, the same delimiters, the same box, the same prefix, the same pattern of
-/// their length, and occur as often; and the same expressions tell how long they are and how often they occur.
+/// their length, and occur as often; the same expressions tell how long they are, how often they occur and which branch is taken, and they have the same keys.
 pub fn alike_components_are_judged_alike()
     ensures breach { (a b : Judged) → IsAlike a b → breach_of_component a ≡ breach_of_component b }
     ensures primitive { (a b : Judged) → IsAlike a b → primitive_of a ≡ primitive_of b }
@@ -179,6 +191,8 @@ pub fn alike_components_are_judged_alike()
     ensures occurrences { (a b : Judged) → IsAlike a b → occurrences_of a ≡ occurrences_of b }
     ensures measure { (a b : Judged) → IsAlike a b → measure_of a ≡ measure_of b }
     ensures count { (a b : Judged) → IsAlike a b → count_expression a ≡ count_expression b }
+    ensures key { (a b : Judged) → IsAlike a b → key_expression a ≡ key_expression b }
+    ensures keys { (a b : Judged) → IsAlike a b → keys_of a ≡ keys_of b }
 {}
 
 /// Chains that give the same, name by name, tell the same of each property.

@@ -11,7 +11,8 @@
 //! pattern tells its length, by `specs/Patterns.antt`. `framing` says which fill stands around a component, by
 //! `specs/Framing.antt`, `delimiters_at` which initiator, terminator and separator it has, by `specs/Delimiters.antt`, and `size_of_box` how long
 //! a complex element's box is, by `specs/Boxes.antt`. `occurrences` says how often an element occurs, by `specs/Occurrences.antt`.
-//! `measure` and `count` tell by which expressions it has its length and the number of its occurrences, by `specs/Measures.antt`.
+//! `measure` and `count` tell by which expressions it has its length and the number of its occurrences, by `specs/Measures.antt`, `key` by
+//! which expression the branch of a choice is told, and `branch_keys` the keys of a branch, by `specs/Keys.antt`.
 //! The patterns of its tests and `checks`, its tests of expressions, are told by `specs/Tests.antt`, and what is asked of it where it stands by `specs/Standings.antt`.
 //! `other_representations` says which representations of a simple element are tried before its normal one, by
 //! `specs/Representations.antt`, which stands on `specs/Nils.antt`, `specs/NilValues.antt` and `specs/Defaults.antt`. The chapters are
@@ -33,6 +34,8 @@ mod fill;
 mod fill_bytes;
 mod flaw;
 mod flaws;
+mod key_list;
+mod keys;
 mod kinds;
 pub mod laws;
 mod length_rules;
@@ -67,6 +70,8 @@ pub use calculations::{calculation, kind_for};
 pub use delimiters::{Delimiting, Markup, Separating, delimiters_at, is_delimiter};
 pub use expression_tests::{CheckForm, checks, message_of};
 pub use fill::framing;
+pub use key_list::KeyList;
+pub use keys::{branch_keys, is_keyed_by, key, keys_of_chain};
 pub use measures::{MeasureForm, count, measure};
 pub use number::primitive;
 pub use occurring::{Bounds, is_count_parsed, occurrences};
@@ -79,4 +84,4 @@ pub use rules::breach;
 pub use standings::initiates;
 pub use subject::{Breach, Facts, Kind, PrefixType, Standing, StatedTest, Subject};
 pub use tests::{is_pattern_test, test_pattern, tests_for};
-pub use tried::{OtherRepresentations, other_representations};
+pub use tried::{EmptyRepresentation, OtherRepresentations, other_representations};

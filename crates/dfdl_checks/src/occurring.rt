@@ -140,20 +140,6 @@ pub fn is_count_parsed(subject: &Subject<'_, '_, '_>) -> bool
     }
 }
 
-/// Whether some of a component's occurrences are required.
-pub(crate) fn is_required(subject: &Subject<'_, '_, '_>) -> bool
-    ensures { result ≡ spec.is_required (judged_of subject.now) }
-{
-    occurrences(subject).least > 0
-}
-
-/// Whether some of a component's occurrences are tried.
-pub(crate) fn is_tried(subject: &Subject<'_, '_, '_>) -> bool
-    ensures { result ≡ spec.is_tried (judged_of subject.now) }
-{
-    occurrences(subject).further > 0
-}
-
 /// Whether the greatest number of occurrences is this one.
 fn is_most(most: Option<u64>, number: u64) -> bool
     ensures { result ≡ spec.is_most most number }

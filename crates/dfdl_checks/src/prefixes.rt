@@ -50,6 +50,8 @@ const NO_FACTS: Facts<'static> = Facts {
 const NOWHERE: Standing = Standing {
     is_initiated: false,
     needs_bound: false,
+    needs_key: false,
+    repeats_key: false,
 };
 
 /// How the prefix of an element lies in the data, and how many units of its own it counts; nothing for every other

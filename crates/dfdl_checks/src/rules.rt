@@ -11,6 +11,7 @@ use crate::delimiters::is_delimiter_empty;
 use crate::fill_bytes::is_fill_other;
 use crate::flaw::Flaw;
 use crate::flaws::has_flaw;
+use crate::keys::{is_key_unfit, is_keyed_and_initiated};
 use crate::kinds::{is_bare, is_choice, is_element, is_simple};
 use crate::length_rules::{
     is_length_in_characters, is_length_kind_not_allowed, is_length_out_of_range,
@@ -18,9 +19,7 @@ use crate::length_rules::{
 };
 use crate::new_lines::{is_new_line_expression, is_new_line_other};
 use crate::nil_values::is_nil_not_allowed;
-use crate::occurring::{
-    are_bounds_unfit, is_counted_by_expression, is_once, is_required, is_tried,
-};
+use crate::occurring::{are_bounds_unfit, is_once};
 use crate::orders::{bit_order, is_least_first, is_same_order};
 use crate::packed::codes_told;
 use crate::prefixes::prefix_subject;
@@ -180,16 +179,22 @@ fn representation_breach(
     if are_bounds_unfit(subject) {
         return told_here(SchemaCause::OccurrenceBounds, subject);
     }
-    statement_breach(subject)
+    statement_breach(alloc, subject)
 }
 
-/// The first rule on tests, on initiated contents, on calculated values and on escape schemes that a component breaks.
+/// The first rule on tests, on keys of branches, on initiated contents, on calculated values and on escape schemes that a component breaks.
 #[tactic(auto, unfolding(crate::specs::Rules::rules))]
-fn statement_breach(subject: &Subject<'_, '_, '_>) -> Result<Option<Breach>, AllocError>
+fn statement_breach(
+    alloc: Global,
+    subject: &Subject<'_, '_, '_>,
+) -> Result<Option<Breach>, AllocError>
     ensures { IfOk result (λ breach. breach ≡ spec.first_breach (drop 27 spec.rules) (judged_of subject.now)) }
 {
     if are_tests_together(subject) {
         return told_here(SchemaCause::TestsTogether, subject);
+    }
+    if is_key_unfit(alloc, subject)? {
+        return told_here(SchemaCause::BranchKey, subject);
     }
     if is_initiator_missing(subject) {
         return told_here(SchemaCause::NoInitiator, subject);
@@ -220,7 +225,9 @@ fn told_here(
 fn is_unbuilt(subject: &Subject<'_, '_, '_>) -> bool
     ensures { result ≡ spec.is_unbuilt (judged_of subject.now) }
 {
-    is_later_component(subject) || has_flaw(Flaw::Unbuilt, subject)
+    is_later_component(subject)
+        || is_keyed_and_initiated(subject)
+        || has_flaw(Flaw::Unbuilt, subject)
 }
 
 /// Whether the component is of a kind that is built later.
@@ -277,25 +284,17 @@ fn is_whole_type(simple: Simple) -> bool
     }
 }
 
-/// Whether an element is built later: for parsing, one with a default that some of its occurrences take and others don't, or whose
-/// occurrences an expression counts; for unparsing, one that does not occur exactly once, may be nil or has a default.
+/// Whether an element is built later: for unparsing, one that does not occur exactly once, may be nil or has a default.
 fn is_later_element(subject: &Subject<'_, '_, '_>) -> bool
     ensures { result ≡ spec.is_later_element subject.now.purpose (judged_of subject.now) }
 {
     let facts = subject.facts;
     match subject.purpose {
-        Purpose::Parsing => facts.default.is_some() && are_defaults_apart(subject),
+        Purpose::Parsing => false,
         Purpose::Unparsing => {
             !is_once(facts.bounds) || facts.is_nillable || facts.default.is_some()
         }
     }
-}
-
-/// Whether some of its occurrences are required and others tried, or an expression counts them.
-fn are_defaults_apart(subject: &Subject<'_, '_, '_>) -> bool
-    ensures { result ≡ spec.are_defaults_apart (judged_of subject.now) }
-{
-    (is_required(subject) && is_tried(subject)) || is_counted_by_expression(subject)
 }
 
 /// Whether it is an element of a simple type that is not carried.

@@ -73,6 +73,10 @@ pub struct Standing {
     pub is_initiated: bool,
     /// Among slots none of which may be unbounded ('Sequence Groups', on separatorSuppressionPolicy).
     pub needs_bound: bool,
+    /// Among the branches of a choice by a key ('Choices', on choiceDispatchKey).
+    pub needs_key: bool,
+    /// It has a key twice, or one of a branch before it.
+    pub repeats_key: bool,
 }
 
 /// The type that a component's property prefixLengthType names.

@@ -13,7 +13,7 @@ pub(crate) fn applicabilities() -> &'static [Applicability]
     &APPLICABILITIES
 }
 
-static APPLICABILITIES: [Applicability; 75] = [
+static APPLICABILITIES: [Applicability; 76] = [
     Applicability {
         name: "representation",
         bearers: Bearers::RepresentedElements,
@@ -245,7 +245,7 @@ static APPLICABILITIES: [Applicability; 75] = [
     Applicability {
         name: "choiceDispatchKey",
         bearers: Bearers::Choices,
-        parsing: Built::NoValue,
+        parsing: Built::EveryValue,
         unparsing: Built::NoValue,
     },
     Applicability {
@@ -461,6 +461,12 @@ static APPLICABILITIES: [Applicability; 75] = [
     Applicability {
         name: "encoding",
         bearers: Bearers::TestedComponents,
+        parsing: Built::EveryValue,
+        unparsing: Built::EveryValue,
+    },
+    Applicability {
+        name: "choiceBranchKey",
+        bearers: Bearers::KeyedBranches,
         parsing: Built::EveryValue,
         unparsing: Built::EveryValue,
     },

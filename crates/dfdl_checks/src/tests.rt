@@ -123,12 +123,12 @@ pub(crate) fn is_tested(subject: &Subject<'_, '_, '_>) -> bool
     some_by_pattern(subject.tests)
 }
 
-/// Whether a component has a statement that is built later; for unparsing each is.
+/// Whether a component has a statement that is built later, as for unparsing each is.
 pub(crate) fn has_later_statements(subject: &Subject<'_, '_, '_>) -> bool
     ensures { result ≡ spec.has_later_statements subject.now.purpose (judged_of subject.now) }
 {
     match subject.purpose {
-        Purpose::Parsing => subject.facts.opens_instances,
+        Purpose::Parsing => false,
         Purpose::Unparsing => {
             subject.facts.opens_instances
                 || subject.sets_variables

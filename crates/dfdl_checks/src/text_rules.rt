@@ -12,6 +12,7 @@ use crate::boolean_texts::{
 use crate::delimiters::{is_delimiter_malformed, is_delimiter_not_encoded};
 use crate::encodings::{encoding_told, is_other_encoding};
 use crate::fill_bytes::is_fill_malformed;
+use crate::keys::is_key_malformed;
 use crate::kinds::is_decimal;
 use crate::nils::{is_nil_malformed, is_nil_not_encoded};
 use crate::number_texts::{
@@ -127,7 +128,10 @@ pub(crate) fn is_literal_malformed(
     if is_nil_malformed(alloc, subject)? {
         return Ok(true);
     }
-    is_delimiter_malformed(alloc, subject)
+    if is_delimiter_malformed(alloc, subject)? {
+        return Ok(true);
+    }
+    is_key_malformed(alloc, subject)
 }
 
 /// Whether it is a text that is padded or trimmed, whose encoding lacks its pad character.

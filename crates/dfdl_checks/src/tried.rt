@@ -1,5 +1,5 @@
 // The representations of a simple element besides its normal one.
-ghost use Rattle.std.specs.Prelude.{◌≡◌, IfOk, option_and_then, option_map};
+ghost use Rattle.std.specs.Prelude.{◌≡◌, IfOk, option_and_then, option_copied, option_map};
 ghost use Rattle.std.specs.Option.{option_map_or};
 ghost use Rattle.dfdl_checks.specs.JudgedShown.{judged_of};
 ghost use Rattle.dfdl_checks.specs.Nils.{nil_form_of};
@@ -8,7 +8,7 @@ ghost use Rattle.dfdl_checks.specs.Numbers.{primitive_of};
 ghost use Rattle.dfdl_checks.specs.Representations as tried;
 ghost use Rattle.dfdl_terms.specs.Rows.{IsPrimitive};
 
-use crate::defaults::{default_of, empty_value};
+use crate::defaults::empty_value;
 use crate::delimiters::is_empty_delimited;
 use crate::kinds::is_string_or_bytes;
 use crate::nil_values::nil_values;
@@ -25,17 +25,26 @@ use dfdl_terms::{
 use dfdl_value::{TextValue, Value};
 use std::alloc::{AllocError, Global};
 
+/// The empty representation of an element's occurrences that take a default or that take none ('DFDL Data Syntax Grammar').
+#[derive(Debug, Drop)]
+pub struct EmptyRepresentation {
+    /// How its content is read as empty, where no bits stand for a value or a delimiter shows that it is empty.
+    pub empty: Option<Primitive>,
+    /// The occurrence is refused where its empty representation is found: no bits stand for no value.
+    pub refuses_empty: bool,
+    /// More than one representation can be tried.
+    pub are_several: bool,
+}
+
 /// The representations of an element besides its normal one ('DFDL Data Syntax Grammar').
 #[derive(Debug, Drop)]
 pub struct OtherRepresentations {
     /// How its content is read as nil, where it may be nil.
     pub nil: Option<Primitive>,
-    /// How its content is read as empty, where no bits stand for a value or a delimiter shows that it is empty.
-    pub empty: Option<Primitive>,
-    /// The element is refused where its empty representation is found: no bits stand for no value.
-    pub refuses_empty: bool,
-    /// More than one representation can be tried.
-    pub are_several: bool,
+    /// The empty representation of an occurrence that is required, which takes the element's default.
+    pub required: EmptyRepresentation,
+    /// The same of an occurrence that is tried, which takes no default.
+    pub where_tried: EmptyRepresentation,
 }
 
 /// Which representations of a simple element besides its normal one are tried; a component that breaks a rule on its normal
@@ -52,15 +61,25 @@ pub fn other_representations(
     }
 }
 
+/// No empty representation.
+fn no_empty() -> EmptyRepresentation
+    ensures { result ≡ tried.no_empty }
+{
+    EmptyRepresentation {
+        empty: None,
+        refuses_empty: false,
+        are_several: false,
+    }
+}
+
 /// No representation besides the normal one.
 fn no_representations() -> OtherRepresentations
     ensures { result ≡ tried.no_representations }
 {
     OtherRepresentations {
         nil: None,
-        empty: None,
-        refuses_empty: false,
-        are_several: false,
+        required: no_empty(),
+        where_tried: no_empty(),
     }
 }
 
@@ -104,24 +123,43 @@ fn of_primitive(
     requires { IsPrimitive primitive.now }
     ensures { IfOk result (λ others. others ≡ tried.representations_with (judged_of subject.now) simple primitive.now) }
 {
+    let size = size_of(primitive);
     let nil = nil_of(alloc, simple, subject, primitive)?;
-    let empty = empty_of(alloc, simple, subject, size_of(primitive))?;
-    let refuses_empty = refuses_empty(alloc, simple, subject, size_of(primitive))?;
+    let required = empty_with(alloc, simple, subject, size, subject.facts.default)?;
+    let where_tried = empty_with(alloc, simple, subject, size, None)?;
     Ok(OtherRepresentations {
         nil,
-        empty,
-        refuses_empty,
-        are_several: are_several(subject),
+        required,
+        where_tried,
     })
 }
 
-/// Whether more than one representation can be tried, though it may always give way.
-fn are_several(subject: &Subject<'_, '_, '_>) -> bool
-    ensures { result ≡ tried.are_several (judged_of subject.now) }
+/// The empty representation of an occurrence with this size and this default.
+fn empty_with(
+    alloc: Global,
+    simple: Simple,
+    subject: &Subject<'_, '_, '_>,
+    size: TextSize,
+    default: Option<&str>,
+) -> Result<EmptyRepresentation, AllocError>
+    ensures { IfOk result (λ empty. empty ≡ tried.empty_with (judged_of subject.now) simple size (option_copied default.entry)) }
+{
+    let empty = empty_of(alloc, simple, subject, size, default)?;
+    let refuses_empty = refuses_empty(alloc, simple, subject, size, default)?;
+    Ok(EmptyRepresentation {
+        empty,
+        refuses_empty,
+        are_several: are_several(subject, default),
+    })
+}
+
+/// Whether more than one representation can be tried of an occurrence with this default, though it may always give way.
+fn are_several(subject: &Subject<'_, '_, '_>, default: Option<&str>) -> bool
+    ensures { result ≡ tried.are_several (judged_of subject.now) (option_copied default.entry) }
 {
     is_nillable(subject)
         || is_string_or_bytes(subject.kind)
-        || default_of(subject).is_some()
+        || default.is_some()
         || is_empty_delimited(subject)
 }
 
@@ -251,49 +289,52 @@ fn no_text(alloc: Global, is_delimited: bool) -> Result<Option<Value>, AllocErro
     Ok(Some(Value::Text(text)))
 }
 
-/// What is told of no bits at an element of a type, if anything is.
+/// What is told of no bits at an occurrence of a type with this default, if anything is.
 fn told_of_nothing(
     alloc: Global,
     simple: Simple,
     subject: &Subject<'_, '_, '_>,
+    default: Option<&str>,
 ) -> Result<Option<Value>, AllocError>
-    ensures { IfOk result (λ value. value ≡ tried.told_of_nothing (judged_of subject.now) simple) }
+    ensures { IfOk result (λ value. value ≡ tried.told_of_nothing (judged_of subject.now) simple (option_copied default.entry)) }
 {
-    match empty_value(alloc, simple, subject)? {
+    match empty_value(alloc, simple, default)? {
         Some(value) => Ok(Some(value)),
         None => no_text(alloc, is_empty_delimited(subject)),
     }
 }
 
-/// Whether an element with this size is refused where its empty representation is found.
+/// Whether an occurrence with this size and this default is refused where its empty representation is found.
 fn refuses_empty(
     alloc: Global,
     simple: Simple,
     subject: &Subject<'_, '_, '_>,
     size: TextSize,
+    default: Option<&str>,
 ) -> Result<bool, AllocError>
-    ensures { IfOk result (λ refuses. refuses ≡ tried.refuses_empty (judged_of subject.now) simple size) }
+    ensures { IfOk result (λ refuses. refuses ≡ tried.refuses_empty (judged_of subject.now) simple size (option_copied default.entry)) }
 {
     if !can_be_empty(subject, size) || !is_empty_delimited(subject) {
         return Ok(false);
     }
-    let value = empty_value(alloc, simple, subject)?;
+    let value = empty_value(alloc, simple, default)?;
     Ok(value.is_none())
 }
 
-/// The empty representation of an element with this size, where anything is told of no bits.
+/// The empty representation of an occurrence with this size and this default, where anything is told of no bits.
 fn empty_of(
     alloc: Global,
     simple: Simple,
     subject: &Subject<'_, '_, '_>,
     size: TextSize,
+    default: Option<&str>,
 ) -> Result<Option<Primitive>, AllocError>
-    ensures { IfOk result (λ empty. empty ≡ tried.empty_of (judged_of subject.now) simple size) }
+    ensures { IfOk result (λ empty. empty ≡ tried.empty_of (judged_of subject.now) simple size (option_copied default.entry)) }
 {
     if !can_be_empty(subject, size) {
         return Ok(None);
     }
-    let value = told_of_nothing(alloc, simple, subject)?;
+    let value = told_of_nothing(alloc, simple, subject, default)?;
     Ok(default_in(size, value))
 }
 

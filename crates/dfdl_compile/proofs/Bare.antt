@@ -1,5 +1,5 @@
 -- No component for unparsing has statements, fill, delimiters, a box or a length prefix.
-use Rattle.std.proofs.Common.{◌≡◌, ℕ, ◌+◌, ◌≤◌, Bool, true, false, List, [], length, nat_lt, ◌||◌, All, Option, None, Some, option_map, ap, sym, subst, ◌∙◌, refl, arith}
+use Rattle.std.proofs.Common.{◌≡◌, ℕ, ◌+◌, ◌-◌, ◌≤◌, Bool, true, false, List, [], length, nat_lt, ◌||◌, All, Option, None, Some, option_map, ap, sym, subst, ◌∙◌, refl, arith}
 use Rattle.dfdl_documents.specs.Documents.{SchemaDocument}
 use Rattle.dfdl_components.specs.declared.site.Site.{Site}
 use Rattle.dfdl_components.specs.Sites.{IsSite, role_of}
@@ -26,10 +26,11 @@ use Rattle.dfdl_rows.specs.Times.{question_of}
 use Rattle.dfdl_rows.specs.declared.component.ContentBox.TheVariants.{Unbounded}
 use Rattle.dfdl_rows.specs.declared.component.LeafLength.TheVariants.{Own}
 use Rattle.dfdl_rows.specs.declared.component.Component.TheVariants.{Sequence, SimpleElement, CalculatedElement}
-use Rattle.dfdl_compile.specs.Components.{box_by, component_at, components_of, counted_by, framing_of, hiding_by, leaf_length_by, measure_by, number_if, prefix_by, prefix_number, separator_number}
-use Rattle.dfdl_compile.specs.Statements.{count_number, first_statement, if_first, if_last, is_set_first, measure_number}
+use Rattle.dfdl_compile.specs.Components.{box_by, component_at, components_of, counted_by, dispatch_at, framing_of, hiding_by, leaf_length_by, measure_by, number_if, prefix_by, prefix_number, separator_number}
+use Rattle.dfdl_chains.specs.declared.settings.Setter.{Setter}
+use Rattle.dfdl_compile.specs.Statements.{count_number, first_statement, if_first, if_last, is_set_first, measure_number, opening_count}
 use Rattle.dfdl_compile.specs.Delimiters.{separated_by}
-use Rattle.dfdl_compile.proofs.Fitting.{all_within, by_calculation, calculation_or, each, measured, of_kind, often}
+use Rattle.dfdl_compile.proofs.Fitting.{by_key, all_within, by_calculation, calculation_or, each, measured, of_kind, often}
 use Rattle.dfdl_compile.proofs.Hiding.{judgement_if, none_unparsed}
 use Rattle.dfdl_compile.proofs.Calculating.{none_calculated}
 
@@ -37,6 +38,7 @@ use Rattle.dfdl_compile.proofs.Calculating.{none_calculated}
 -- length or the number of its occurrences, and it occurs once, which isn't tried
 record IsBare (documents : List SchemaDocument) (first : ℕ) (own : Site) (told : Judgement) : Type 0 where
   unframed : has_framing (framing_of documents first own told) ≡ false
+  unopened : (framing_of documents first own told).openings.count ≡ 0
   unconcluded : (framing_of documents first own told).behind.count ≡ 0
   unboxed : told.size ≡ None
   unprefixed : told.prefix ≡ None
@@ -64,21 +66,33 @@ module _ (refused : Site → Bool) (documents : List SchemaDocument)
   none_last true n is = refl
   none_last false n is = is
 
-  none_before : (own : Site) (b : Bool) → length (built_tests_at Unparsing refused documents own) + if_first b (length (built_settings_at Unparsing documents own)) ≡ 0
-  none_before own b =
-      let tests = ap (λ (ts : List PatternTest). length ts) (untested refused documents own) in
-      let settings = none_first b (length (built_settings_at Unparsing documents own)) (ap (λ (ss : List Site). length ss) (unset documents own)) in
-      omega (arith, tests, settings)
+  none_before : (own : Site) → length (built_tests_at Unparsing refused documents own) ≡ 0
+  none_before own = ap (λ (ts : List PatternTest). length ts) (untested refused documents own)
+
+  none_opened : (own : Site) (b : Bool) → if_first b (opening_count (built_settings_at Unparsing documents own)) ≡ 0
+  none_opened own b = none_first b (opening_count (built_settings_at Unparsing documents own)) (ap opening_count (unset documents own))
+
+  none_set : (own : Site) (b : Bool)
+      → if_first b (length (built_settings_at Unparsing documents own) - opening_count (built_settings_at Unparsing documents own)) ≡ 0
+  none_set own b =
+      none_first b (length (built_settings_at Unparsing documents own) - opening_count (built_settings_at Unparsing documents own))
+      (ap (λ (ss : List Setter). length ss - opening_count ss) (unset documents own))
+
+  none_framed : (tests settings : ℕ) → tests ≡ 0 → settings ≡ 0
+      → (nat_lt 0 tests || nat_lt 0 settings || false || false || false || false || false) ≡ false
+  none_framed tests settings none unset =
+      ap (λ (count : ℕ). nat_lt 0 count || nat_lt 0 settings || false || false || false || false || false) none
+      ∙ ap (λ (count : ℕ). nat_lt 0 0 || nat_lt 0 count || false || false || false || false || false) unset
 
   none_behind : (own : Site) (b : Bool) → if_last b (length (built_settings_at Unparsing documents own)) + length (built_checks_at Unparsing refused documents own) ≡ 0
   none_behind own b =
       let checks = ap (λ (cs : List CheckForm). length cs) (unchecked refused documents own) in
-      let settings = none_last b (length (built_settings_at Unparsing documents own)) (ap (λ (ss : List Site). length ss) (unset documents own)) in
+      let settings = none_last b (length (built_settings_at Unparsing documents own)) (ap (λ (ss : List Setter). length ss) (unset documents own)) in
       omega (arith, checks, settings)
 
-  nothing_before : (b : Bool) → 0 + if_first b 0 ≡ 0
-  nothing_before true = refl
-  nothing_before false = refl
+  nothing_first : (b : Bool) → if_first b 0 ≡ 0
+  nothing_first true = refl
+  nothing_first false = refl
 
   nothing_behind : (b : Bool) → if_last b 0 + 0 ≡ 0
   nothing_behind true = refl
@@ -87,7 +101,8 @@ module _ (refused : Site → Bool) (documents : List SchemaDocument)
   bare_by : (first : ℕ) (own : Site) (b : Bool) → IsBare documents first own (judgement_if Unparsing refused documents own b)
   unfolding judgement_if
   bare_by first own true = record {
-    unframed = ap (λ (count : ℕ). nat_lt 0 count || false || false || false || false || false) (none_before own (is_set_first (kind_at documents own)));
+    unframed = none_framed (length (built_tests_at Unparsing refused documents own)) _ (none_before own) (none_set own (is_set_first (kind_at documents own)));
+    unopened = none_opened own (is_set_first (kind_at documents own));
     unconcluded = none_behind own (is_set_first (kind_at documents own));
     unboxed = refl;
     unprefixed = none refused documents own;
@@ -98,7 +113,8 @@ module _ (refused : Site → Bool) (documents : List SchemaDocument)
     untried = refl;
   }
   bare_by first own false = record {
-    unframed = ap (λ (count : ℕ). nat_lt 0 count || false || false || false || false || false) (nothing_before (is_set_first (kind_at documents own)));
+    unframed = none_framed 0 _ refl (nothing_first (is_set_first (kind_at documents own)));
+    unopened = nothing_first (is_set_first (kind_at documents own));
     unconcluded = nothing_behind (is_set_first (kind_at documents own));
     unboxed = refl;
     unprefixed = refl;
@@ -113,9 +129,17 @@ module _ (refused : Site → Bool) (documents : List SchemaDocument)
   unfolding judgement_at judgement_if
   bare_judgement first own = bare_by first own (is_component (role_of documents own))
 
+  no_true : true ≡ false → ⊥
+  no_true is = cc
+
   -- without fill and delimiters, and with a box or a prefix only where the judgement has one
   bare_component : (own : Site) → IsBareComponent (component_at Unparsing refused documents own)
-  bare_component own = by_hidden (judgement_at Unparsing refused documents own).hidden (none_unparsed refused documents own (unhidden documents own))
+  bare_component own =
+      by_key Unparsing refused documents own IsBareComponent (dispatch_at Unparsing refused documents own)
+      (hiding_by (judgement_at Unparsing refused documents own).hidden (calculation_or Unparsing refused documents own (judgement_at Unparsing refused documents own).calculation
+      (of_kind Unparsing refused documents own (kind_at documents own))))
+      (λ dispatch framing initiated other is bare. absurd (no_true bare.unchosen))
+      (by_hidden (judgement_at Unparsing refused documents own).hidden (none_unparsed refused documents own (unhidden documents own)))
     where
       told : IsBare documents (first_statement Unparsing refused documents own) own (judgement_at Unparsing refused documents own)
       told = bare_judgement (first_statement Unparsing refused documents own) own
@@ -173,14 +197,14 @@ module _ (refused : Site → Bool) (documents : List SchemaDocument)
       unseparated = by_separator (judgement_at Unparsing refused documents own).markup.separator told.unseparated
 
       by_kind : (k : Kind) → IsBareComponent (of_kind Unparsing refused documents own k)
-      by_kind kind.ComplexElement = record { unframed = told.unframed; unconcluded = told.unconcluded; unboxed = unboxed; unmeasured = refl; unseparated = refl; unchosen = refl; unhidden = refl; uncalculated = refl; once = told.once; untried = told.untried; untold = untold }
-      by_kind (kind.SimpleElement simple) = record { unframed = told.unframed; unconcluded = told.unconcluded; unboxed = refl; unmeasured = unsized; unseparated = refl; unchosen = refl; unhidden = refl; uncalculated = refl; once = told.once; untried = told.untried; untold = untold }
-      by_kind kind.UncarriedElement = record { unframed = told.unframed; unconcluded = told.unconcluded; unboxed = refl; unmeasured = unsized; unseparated = refl; unchosen = refl; unhidden = refl; uncalculated = refl; once = told.once; untried = told.untried; untold = untold }
-      by_kind (kind.CalculatedElement simple) = record { unframed = told.unframed; unconcluded = told.unconcluded; unboxed = refl; unmeasured = unsized; unseparated = refl; unchosen = refl; unhidden = refl; uncalculated = refl; once = told.once; untried = told.untried; untold = untold }
-      by_kind kind.Sequence = record { unframed = told.unframed; unconcluded = told.unconcluded; unboxed = refl; unmeasured = refl; unseparated = unseparated; unchosen = refl; unhidden = refl; uncalculated = refl; once = omega arith; untried = refl; untold = refl }
-      by_kind kind.HiddenSequence = record { unframed = told.unframed; unconcluded = told.unconcluded; unboxed = refl; unmeasured = refl; unseparated = unseparated; unchosen = refl; unhidden = refl; uncalculated = refl; once = omega arith; untried = refl; untold = refl }
-      by_kind kind.Choice = record { unframed = told.unframed; unconcluded = told.unconcluded; unboxed = refl; unmeasured = refl; unseparated = unseparated; unchosen = refl; unhidden = refl; uncalculated = refl; once = omega arith; untried = refl; untold = refl }
-      by_kind (kind.PrefixNumber simple) = record { unframed = told.unframed; unconcluded = told.unconcluded; unboxed = refl; unmeasured = refl; unseparated = unseparated; unchosen = refl; unhidden = refl; uncalculated = refl; once = omega arith; untried = refl; untold = refl }
+      by_kind kind.ComplexElement = record { unframed = told.unframed; unopened = told.unopened; unconcluded = told.unconcluded; unboxed = unboxed; unmeasured = refl; unseparated = refl; unchosen = refl; unhidden = refl; uncalculated = refl; once = told.once; untried = told.untried; untold = untold }
+      by_kind (kind.SimpleElement simple) = record { unframed = told.unframed; unopened = told.unopened; unconcluded = told.unconcluded; unboxed = refl; unmeasured = unsized; unseparated = refl; unchosen = refl; unhidden = refl; uncalculated = refl; once = told.once; untried = told.untried; untold = untold }
+      by_kind kind.UncarriedElement = record { unframed = told.unframed; unopened = told.unopened; unconcluded = told.unconcluded; unboxed = refl; unmeasured = unsized; unseparated = refl; unchosen = refl; unhidden = refl; uncalculated = refl; once = told.once; untried = told.untried; untold = untold }
+      by_kind (kind.CalculatedElement simple) = record { unframed = told.unframed; unopened = told.unopened; unconcluded = told.unconcluded; unboxed = refl; unmeasured = unsized; unseparated = refl; unchosen = refl; unhidden = refl; uncalculated = refl; once = told.once; untried = told.untried; untold = untold }
+      by_kind kind.Sequence = record { unframed = told.unframed; unopened = told.unopened; unconcluded = told.unconcluded; unboxed = refl; unmeasured = refl; unseparated = unseparated; unchosen = refl; unhidden = refl; uncalculated = refl; once = omega arith; untried = refl; untold = refl }
+      by_kind kind.HiddenSequence = record { unframed = told.unframed; unopened = told.unopened; unconcluded = told.unconcluded; unboxed = refl; unmeasured = refl; unseparated = unseparated; unchosen = refl; unhidden = refl; uncalculated = refl; once = omega arith; untried = refl; untold = refl }
+      by_kind kind.Choice = record { unframed = told.unframed; unopened = told.unopened; unconcluded = told.unconcluded; unboxed = refl; unmeasured = refl; unseparated = unseparated; unchosen = refl; unhidden = refl; uncalculated = refl; once = omega arith; untried = refl; untold = refl }
+      by_kind (kind.PrefixNumber simple) = record { unframed = told.unframed; unopened = told.unopened; unconcluded = told.unconcluded; unboxed = refl; unmeasured = refl; unseparated = unseparated; unchosen = refl; unhidden = refl; uncalculated = refl; once = omega arith; untried = refl; untold = refl }
 
       by_hidden : (hidden : Option Site) → hidden ≡ None
           → IsBareComponent (hiding_by hidden (calculation_or Unparsing refused documents own (judgement_at Unparsing refused documents own).calculation

@@ -20,13 +20,14 @@ use Rattle.dfdl_checks.specs.declared.measures.MeasureForm.{MeasureForm}
 use Rattle.dfdl_checks.specs.declared.purpose.Purpose.{Purpose}
 use Rattle.dfdl_chains.specs.Everywhere.{all_sites, for_each}
 use Rattle.dfdl_chains.specs.Parts.{is_component}
+use Rattle.dfdl_chains.specs.Settings.{IsSetterOf}
 use Rattle.dfdl_breaches.specs.Judging.{IsCheckOf, built_checks_at, built_settings_at, judgement_at}
 use Rattle.dfdl_breaches.specs.Elements.{place_of}
 use Rattle.dfdl_breaches.specs.declared.judgement.Judgement.{Judgement}
 use Rattle.dfdl_variables.specs.Variables.{variables_of}
 use Rattle.dfdl_variables.specs.declared.variable.Declared.{Declared}
 use Rattle.dfdl_statements.specs.declared.written.Asked.TheVariants as asked
-use Rattle.dfdl_written.specs.Noting.{length_text, noted_by, noted_calculation, noted_check, noted_each, noted_expressions, noted_from, noted_if, noted_parts, noted_question, noted_setting, noted_test, stated_by}
+use Rattle.dfdl_written.specs.Noting.{length_text, noted_by, noted_calculation, noted_check, noted_each, noted_expressions, noted_from, noted_if, noted_parts, noted_question, noted_questions, noted_setting, noted_test, stated_by}
 use Rattle.dfdl_written.specs.declared.noted.Noted.{Noted}
 use Rattle.dfdl_compile.specs.Shown.{IsStatedWithin}
 use Rattle.dfdl_compile.specs.Statements.{calculation_number, count_by, count_if, count_others, counted, first_statement, judgements_of, noted_at, noted_of}
@@ -68,8 +69,8 @@ module _ (purpose : Purpose) (refused : Site → Bool) (documents : List SchemaD
   count_measured (Some form) = refl
 
   length_expressions : (own : Site) (told : Judgement)
-      → length (noted_expressions documents (place_of documents own) own told.calculation told.measure told.count)
-      ≡ count_if told.calculation + (count_if told.measure + count_if told.count)
+      → length (noted_expressions documents (place_of documents own) own told.calculation told.measure told.count told.key)
+      ≡ count_if told.calculation + (count_if told.measure + (count_if told.count + count_if told.key))
   length_expressions own told =
       let calculations : List Noted = noted_if (noted_calculation documents (place_of documents own) own) told.calculation in
       let lengths : List Noted = noted_if (noted_question documents (place_of documents own) own asked.Length) (option_map length_text told.measure) in
@@ -78,13 +79,16 @@ module _ (purpose : Purpose) (refused : Site → Bool) (documents : List SchemaD
       let measured = length_if (noted_question documents (place_of documents own) own asked.Length) (option_map length_text told.measure)
       ∙ count_measured told.measure in
       let counted = length_if (noted_question documents (place_of documents own) own asked.Count) told.count in
-      length-append calculations (lengths ++ counts)
-      ∙ ((λ i. calculated i + length-append lengths counts i) ∙ (λ i. count_if told.calculation + (measured i + counted i)))
+      let keys : List Noted = noted_if (noted_question documents (place_of documents own) own asked.Key) told.key in
+      let keyed = length_if (noted_question documents (place_of documents own) own asked.Key) told.key in
+      let behind = length-append counts keys ∙ (λ i. counted i + keyed i) in
+      length-append calculations (lengths ++ (counts ++ keys))
+      ∙ ((λ i. calculated i + length-append lengths (counts ++ keys) i) ∙ (λ i. count_if told.calculation + (measured i + behind i)))
 
   length_by : (own : Site) (told : Judgement) → length (noted_by documents own told) ≡ count_by told
   length_by own told =
       length-append (noted_parts documents (place_of documents own) own told.tests told.settings told.checks)
-      (noted_expressions documents (place_of documents own) own told.calculation told.measure told.count)
+      (noted_expressions documents (place_of documents own) own told.calculation told.measure told.count told.key)
       ∙ (λ i. length_parts own told i + length_expressions own told i)
 
   length_each : (sites : List Site) → length (flat_map (noted_at purpose refused documents) sites) ≡ counted (map (judgement_at purpose refused documents) sites)
@@ -104,8 +108,7 @@ module _ (purpose : Purpose) (refused : Site → Bool) (documents : List SchemaD
       → get_or (noted_by documents own told) (count_others told) d ≡ noted_calculation documents (place_of documents own) own text
   last_by own told text d is =
       let parts : List Noted = noted_parts documents (place_of documents own) own told.tests told.settings told.checks in
-      let questions : List Noted = noted_if (noted_question documents (place_of documents own) own asked.Length) (option_map length_text told.measure)
-      ++ noted_if (noted_question documents (place_of documents own) own asked.Count) told.count in
+      let questions : List Noted = noted_questions documents (place_of documents own) own told.measure told.count told.key in
       ap (λ (o : Option (List ℕ)). get_or (parts ++ (noted_if (noted_calculation documents (place_of documents own) own) o ++ questions)) (count_others told) d) is
       ∙ (ap (λ (n : ℕ). get_or (parts ++ noted_calculation documents (place_of documents own) own text ∷ questions) n d) (sym (length_parts own told))
       ∙ get_or-append_seam parts (noted_calculation documents (place_of documents own) own text) questions d)
@@ -140,11 +143,11 @@ module _ (purpose : Purpose) (refused : Site → Bool) (documents : List SchemaD
 
   -- what elements state stands at elements of the documents
   module _ (checked : (own : Site) → IsSite documents own → All (IsCheckOf documents) (built_checks_at purpose refused documents own))
-      (set : (own : Site) → IsSite documents own → All (IsSite documents) (built_settings_at purpose documents own)) where
+      (set : (own : Site) → IsSite documents own → All (IsSetterOf documents) (built_settings_at purpose documents own)) where
     stated_if : (own : Site) → IsSite documents own → (b : Bool) → IsStatedWithin documents (judgement_if purpose refused documents own b)
     unfolding judgement_if
     stated_if own within true = record { settings = set own within; checks = checked own within }
-    stated_if own within false = record { settings = All-nil (IsSite documents); checks = All-nil (IsCheckOf documents) }
+    stated_if own within false = record { settings = All-nil (IsSetterOf documents); checks = All-nil (IsCheckOf documents) }
 
     stated_within : (own : Site) → IsSite documents own → IsStatedWithin documents (judgement_at purpose refused documents own)
     unfolding judgement_at judgement_if

@@ -23,7 +23,8 @@ use Rattle.dfdl_rows.specs.Components.{Schema, component_at as part_at}
 use Rattle.dfdl_rows.specs.declared.component.Component.{Component}
 use Rattle.dfdl_rows.specs.declared.component.Component.TheVariants.{Sequence}
 use Rattle.dfdl_breaches.specs.Roots.{is_global_element}
-use Rattle.dfdl_compile.specs.Components.{component_at, components_of, hiding_by}
+use Rattle.dfdl_rows.specs.declared.component.Dispatch.{Dispatch}
+use Rattle.dfdl_compile.specs.Components.{component_at, components_of, dispatch_at, hiding_by, keyed_by}
 use Rattle.dfdl_compile.specs.Shown.{EndsWithElement}
 use Rattle.dfdl_compile.proofs.Fitting.{made, made_is, of_kind, calculation_or}
 use Rattle.dfdl_compile.proofs.Hiding.{none_hidden}
@@ -51,6 +52,16 @@ no_sequence (Carried simple) = refl
 no_sequence NotCarried = refl
 no_sequence (Defined type) = refl
 
+-- an element of a type is no choice
+no_choice : (purpose : Purpose) (refused : Site → Bool) (documents : List SchemaDocument) (own : Site) (o : Option Dispatch) (calculation : Option (List ℕ)) (typed : Typed)
+    → keyed_by o (calculation_or purpose refused documents own calculation (of_kind purpose refused documents own (kind_of_type typed)))
+    ≡ calculation_or purpose refused documents own calculation (of_kind purpose refused documents own (kind_of_type typed))
+no_choice purpose refused documents own None calculation typed = refl
+no_choice purpose refused documents own (Some dispatch) (Some text) typed = refl
+no_choice purpose refused documents own (Some dispatch) None (Carried simple) = refl
+no_choice purpose refused documents own (Some dispatch) None NotCarried = refl
+no_choice purpose refused documents own (Some dispatch) None (Defined type) = refl
+
 -- a global element is that of its type
 global_is : (purpose : Purpose) (refused : Site → Bool) (documents : List SchemaDocument) (own : Site) → is_global_element (role_of documents own) ≡ true
     → component_at purpose refused documents own
@@ -62,10 +73,13 @@ global_is purpose refused documents own global =
     let kind_is : kind_by documents own (role_of documents own) ≡ kind_of_type (element_type documents own) = ap (kind_by documents own) is in
     let other : is_sequence (kind_at documents own) ≡ false = ap is_sequence kind_is ∙ no_sequence (element_type documents own) in
     made_is purpose refused documents own
-    ∙ (ap (λ (hidden : Option Site). hiding_by hidden (calculation_or purpose refused documents own (judgement_at purpose refused documents own).calculation
-    (made purpose refused documents own (role_of documents own)))) (none_hidden purpose refused documents own other)
-    ∙ ap (λ (r : Role). calculation_or purpose refused documents own (judgement_at purpose refused documents own).calculation
-    (made purpose refused documents own r)) is)
+    ∙ (ap (λ (hidden : Option Site). keyed_by (dispatch_at purpose refused documents own) (hiding_by hidden (calculation_or purpose refused documents own
+    (judgement_at purpose refused documents own).calculation (made purpose refused documents own (role_of documents own)))))
+    (none_hidden purpose refused documents own other)
+    ∙ (ap (λ (r : Role). keyed_by (dispatch_at purpose refused documents own) (calculation_or purpose refused documents own
+    (judgement_at purpose refused documents own).calculation (made purpose refused documents own r))) is
+    ∙ no_choice purpose refused documents own (dispatch_at purpose refused documents own) (judgement_at purpose refused documents own).calculation
+    (element_type documents own)))
 
 -- the component of a root's number
 at_root : (purpose : Purpose) (refused : Site → Bool) (documents : List SchemaDocument) (root : Site) → IsSite documents root

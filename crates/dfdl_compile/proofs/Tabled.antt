@@ -1,5 +1,5 @@
 -- What components name by numbers is there: primitives, lists of literals and statements.
-use Rattle.std.proofs.Common.{◌≡◌, ℕ, ◌+◌, ◌<◌, ◌≤◌, Bool, true, false, List, ◌++◌, length, length-append, get_or, All, Option, None, Some, option_map, ap, sym, subst, ◌∙◌, arith}
+use Rattle.std.proofs.Common.{◌≡◌, ℕ, suc, ◌+◌, ◌<◌, ◌≤◌, Bool, true, false, if◌then◌else◌, List, [], ◌∷◌, ◌++◌, length, length-append, get_or, All, Option, None, Some, option_map, ap, sym, subst, ◌∙◌, arith}
 use Rattle.std.proofs.lemmas.List.{length-map}
 use Rattle.std.proofs.lemmas.List.Sums.{sum_by_more_le}
 use Rattle.dfdl_documents.specs.Documents.{SchemaDocument}
@@ -28,12 +28,15 @@ use Rattle.dfdl_terms.specs.declared.prefix.Prefix.{Prefix}
 use Rattle.dfdl_terms.specs.Rows.{AreWithin, AreStatements, IsWithin}
 use Rattle.dfdl_terms.specs.declared.row.Primitive.{Primitive}
 use Rattle.dfdl_terms.specs.declared.row.Row.TheVariants.{Choice}
-use Rattle.dfdl_rows.specs.Components.{Schema, HasDelimiters, HasList, HasPrimitive, HasBoxPrimitive, HasBoxQuestion, HasLeafQuestion, HasPrefixPrimitive, HasSeparators, HasStatements}
+use Rattle.dfdl_rows.specs.Components.{HasKeyQuestion, Schema, HasDelimiters, HasList, HasPrimitive, HasBoxPrimitive, HasBoxQuestion, HasLeafQuestion, HasPrefixPrimitive, HasSeparators, HasStatements}
+use Rattle.dfdl_rows.specs.declared.component.BranchKey.{BranchKey}
+use Rattle.dfdl_rows.specs.declared.component.Dispatch.{Dispatch}
 use Rattle.dfdl_rows.specs.Times.{question_of}
 use Rattle.dfdl_rows.specs.declared.component.Separated.{Separated}
 use Rattle.dfdl_rows.specs.declared.component.Component.TheVariants.{Sequence, SimpleElement, CalculatedElement}
-use Rattle.dfdl_compile.specs.Components.{box_by, choice_by, component_at, components_of, counted_by, delimiters_of, empty_number, framing_of, initiator_list_at, leaf_length_by, measure_by, nil_number, number_if, prefix_by, prefix_number, primitives_of, separator_list_at, separator_number, terminator_list_at, terminator_number, tried_by}
-use Rattle.dfdl_compile.specs.Statements.{before_by, behind_by, calculation_number, count_by, count_if, count_number, counted, first_statement, is_set_first, judgements_of, measure_number, noted_of}
+use Rattle.dfdl_compile.specs.Components.{box_by, branch_keys, choice_by, component_at, dispatch_at, dispatch_with, keys_at, parts_by, components_of, counted_by, delimiters_of, empty_number, framing_of, initiator_list_at, leaf_length_by, measure_by, nil_number, number_if, prefix_by, prefix_number, primitives_of, separator_list_at, separator_number, terminator_list_at, terminator_number, tried_by, tried_number}
+use Rattle.dfdl_compile.specs.Statements.{before_by, behind_by, calculation_number, count_by, count_if, count_number, counted, first_statement, is_set_first, judgements_of, key_number, measure_number, noted_of, opening_count, openings_by, settings_by}
+use Rattle.dfdl_chains.specs.declared.settings.Setter.{Setter}
 use Rattle.dfdl_compile.specs.Delimiters.{delimiter_by, separated_by}
 use Rattle.dfdl_compile.proofs.Fitting.{all_within, by_component, each, measured, of_kind, often}
 use Rattle.dfdl_compile.proofs.Noted.{length_noted}
@@ -45,7 +48,7 @@ module _ (purpose : Purpose) (refused : Site → Bool) (documents : List SchemaD
 
   has_number : (own : Site) → IsSite documents own → HasPrimitive count (component_at purpose refused documents own)
   has_number own within =
-      by_component purpose refused documents own (HasPrimitive count) tt (λ text told. tt) (by_kind (kind_at documents own))
+      by_component purpose refused documents own (HasPrimitive count) tt (λ text told. tt) (λ dispatch framing initiated other is holds. tt) (by_kind (kind_at documents own))
     where
       own_below : number_of documents own < count
       own_below = let below = number_below documents own within in omega (arith, below)
@@ -63,8 +66,16 @@ module _ (purpose : Purpose) (refused : Site → Bool) (documents : List SchemaD
       by_number number below None = tt
       by_number number below (Some p) = below
 
-      by_others : (others : OtherRepresentations) → AreWithin count (tried_by (nil_number documents own) (empty_number documents own) others)
-      by_others others = (by_number (nil_number documents own) nil_below others.nil, by_number (empty_number documents own) empty_below others.empty)
+      tried_below : tried_number documents own < count
+      tried_below = let below = number_below documents own within in omega (arith, below)
+
+      by_others : (others : OtherRepresentations)
+          → AreWithin count (tried_by (nil_number documents own) (empty_number documents own) (tried_number documents own) others)
+      by_others others = (
+        by_number (nil_number documents own) nil_below others.nil,
+        by_number (empty_number documents own) empty_below others.required.empty,
+        by_number (tried_number documents own) tried_below others.where_tried.empty,
+      )
 
       by_prefix : (o : Option PrefixForm) (m : Option Measure)
           → HasPrefixPrimitive count (leaf_length_by (option_map (prefix_by (prefix_number documents own)) o) m)
@@ -113,7 +124,7 @@ module _ (purpose : Purpose) (refused : Site → Bool) (documents : List SchemaD
   has_lists : (own : Site) → IsSite documents own → HasDelimiters count_lists (component_at purpose refused documents own)
   has_lists own within =
       by_component purpose refused documents own (HasDelimiters count_lists) (tt, tt, tt) (λ text told. (initiated, terminated, tt))
-      (by_kind (kind_at documents own))
+      (λ dispatch framing initiated other is holds. holds) (by_kind (kind_at documents own))
     where
       by_list : (number : ℕ) → number < count_lists → (o : Option Delimiting) → HasList count_lists (option_map (delimiter_by number) o)
       by_list number below None = tt
@@ -193,10 +204,27 @@ module _ (purpose : Purpose) (refused : Site → Bool) (documents : List SchemaD
   abbrev count_statements : ℕ
   count_statements = counted (judgements_of purpose refused documents)
 
-  before_within : (first : ℕ) (is_first : Bool) (told : Judgement) → first + count_by told ≤ count_statements
-      → AreStatements count_statements (before_by is_first first told)
-  before_within first true told fit = omega (arith, fit)
-  before_within first false told fit = omega (arith, fit)
+  before_within : (first : ℕ) (told : Judgement) → first + count_by told ≤ count_statements → AreStatements count_statements (before_by first told)
+  before_within first told fit = omega (arith, fit)
+
+  -- no more open instances than set variables
+  opening_few : (setters : List Setter) → opening_count setters ≤ length setters
+  opening_few [] = omega arith
+  opening_few (setter ∷ setters) = by setter.opens (opening_few setters)
+    where
+      by : (opens : Bool) → opening_count setters ≤ length setters → (if opens then suc (opening_count setters) else opening_count setters) ≤ suc (length setters)
+      by true few = omega (arith, few)
+      by false few = omega (arith, few)
+
+  openings_within : (first : ℕ) (is_first : Bool) (told : Judgement) → first + count_by told ≤ count_statements
+      → AreStatements count_statements (openings_by is_first first told)
+  openings_within first true told fit = let few = opening_few told.settings in omega (arith, fit, few)
+  openings_within first false told fit = omega (arith, fit)
+
+  settings_within : (first : ℕ) (is_first : Bool) (told : Judgement) → first + count_by told ≤ count_statements
+      → AreStatements count_statements (settings_by is_first first told)
+  settings_within first true told fit = let few = opening_few told.settings in omega (arith, fit, few)
+  settings_within first false told fit = let few = opening_few told.settings in omega (arith, fit, few)
 
   behind_within : (first : ℕ) (is_first : Bool) (told : Judgement) → first + count_by told ≤ count_statements
       → AreStatements count_statements (behind_by is_first first told)
@@ -224,13 +252,34 @@ module _ (purpose : Purpose) (refused : Site → Bool) (documents : List SchemaD
   count_question number true None fit = tt
   count_question number false None fit = tt
 
+  -- the number of the question that tells a key, if there is one
+  question_by : Option Dispatch → ℕ
+  question_by None = 0
+  question_by (Some dispatch) = dispatch.question
+
+  -- so is that of a key
+  question_within : (keys : List BranchKey) (number : ℕ) (o : Option (List ℕ)) (dispatch : Dispatch) → number + count_if o ≤ count_statements
+      → option_map (dispatch_with keys) (number_if number o) ≡ Some dispatch → HasKeyQuestion count_statements (Some dispatch)
+  unfolding question_by
+  question_within keys number None dispatch fit is = absurd (cc)
+  question_within keys number (Some text) dispatch fit is =
+      let same : number ≡ dispatch.question = ap question_by is in
+      omega (arith, fit, same)
+
   has_statements : (own : Site) → IsSite documents own → HasStatements count_statements (component_at purpose refused documents own)
   has_statements own within =
-      by_component purpose refused documents own (HasStatements count_statements) (omega arith, omega arith, tt, tt)
-      (λ text told. (before, behind, calculation text told, tt)) (by_kind (kind_at documents own))
+      by_component purpose refused documents own (HasStatements count_statements) ((omega arith, omega arith, omega arith, omega arith), tt, tt)
+      (λ text told. ((before, openings, settings, behind), calculation text told, tt))
+      (λ dispatch framing initiated other is holds. (holds.0, holds.1, key_question dispatch is)) (by_kind (kind_at documents own))
     where
       before : AreStatements count_statements (framing_of documents (first_statement purpose refused documents own) own (judgement_at purpose refused documents own)).before
-      before = before_within (first_statement purpose refused documents own) (is_set_first (kind_at documents own)) (judgement_at purpose refused documents own) (counted_within own within)
+      before = before_within (first_statement purpose refused documents own) (judgement_at purpose refused documents own) (counted_within own within)
+
+      openings : AreStatements count_statements (framing_of documents (first_statement purpose refused documents own) own (judgement_at purpose refused documents own)).openings
+      openings = openings_within (first_statement purpose refused documents own) (is_set_first (kind_at documents own)) (judgement_at purpose refused documents own) (counted_within own within)
+
+      settings : AreStatements count_statements (framing_of documents (first_statement purpose refused documents own) own (judgement_at purpose refused documents own)).settings
+      settings = settings_within (first_statement purpose refused documents own) (is_set_first (kind_at documents own)) (judgement_at purpose refused documents own) (counted_within own within)
 
       behind : AreStatements count_statements (framing_of documents (first_statement purpose refused documents own) own (judgement_at purpose refused documents own)).behind
       behind = behind_within (first_statement purpose refused documents own) (is_set_first (kind_at documents own)) (judgement_at purpose refused documents own) (counted_within own within)
@@ -260,22 +309,28 @@ module _ (purpose : Purpose) (refused : Site → Bool) (documents : List SchemaD
       told_often = count_question (count_number (first_statement purpose refused documents own) (judgement_at purpose refused documents own))
           (judgement_at purpose refused documents own).is_parsed (judgement_at purpose refused documents own).count (omega (arith, counted_within own within))
 
+      key_question : (dispatch : Dispatch) → dispatch_at purpose refused documents own ≡ Some dispatch → HasKeyQuestion count_statements (Some dispatch)
+      key_question dispatch is = question_within
+          (branch_keys (keys_at purpose refused documents) 0 (parts_by documents own (judgement_at purpose refused documents own).hidden))
+          (key_number (first_statement purpose refused documents own) (judgement_at purpose refused documents own))
+          (judgement_at purpose refused documents own).key dispatch (omega (arith, counted_within own within)) is
+
       by_choice : (q : Purpose) → HasStatements count_statements
           (choice_by q (framing_of documents (first_statement purpose refused documents own) own (judgement_at purpose refused documents own))
           (option_map (separated_by (separator_number documents own)) (judgement_at purpose refused documents own).markup.separator)
           (judgement_at purpose refused documents own).initiates)
-      by_choice Parsing = (before, behind, tt, tt)
-      by_choice Unparsing = (before, behind, tt, tt)
+      by_choice Parsing = ((before, openings, settings, behind), tt, tt)
+      by_choice Unparsing = ((before, openings, settings, behind), tt, tt)
 
       by_kind : (k : Kind) → HasStatements count_statements (of_kind purpose refused documents own k)
-      by_kind kind.ComplexElement = (before, behind, tt, (boxed, told_often))
-      by_kind (kind.SimpleElement simple) = (before, behind, tt, (sized, told_often))
-      by_kind kind.UncarriedElement = (before, behind, tt, (sized, told_often))
-      by_kind (kind.CalculatedElement simple) = (before, behind, tt, (sized, told_often))
-      by_kind kind.Sequence = (before, behind, tt, tt)
-      by_kind kind.HiddenSequence = (before, behind, tt, tt)
+      by_kind kind.ComplexElement = ((before, openings, settings, behind), tt, (boxed, told_often))
+      by_kind (kind.SimpleElement simple) = ((before, openings, settings, behind), tt, (sized, told_often))
+      by_kind kind.UncarriedElement = ((before, openings, settings, behind), tt, (sized, told_often))
+      by_kind (kind.CalculatedElement simple) = ((before, openings, settings, behind), tt, (sized, told_often))
+      by_kind kind.Sequence = ((before, openings, settings, behind), tt, tt)
+      by_kind kind.HiddenSequence = ((before, openings, settings, behind), tt, tt)
       by_kind kind.Choice = by_choice purpose
-      by_kind (kind.PrefixNumber simple) = (before, behind, tt, tt)
+      by_kind (kind.PrefixNumber simple) = ((before, openings, settings, behind), tt, tt)
 
   -- the statements of each component are some of those that are noted
   pub have_statements : (schema : Schema) (count : ℕ) → schema ≡ components_of purpose refused documents

@@ -20,14 +20,14 @@ use Rattle.dfdl_breaches.specs.declared.judgement.Judgement.{Judgement}
 use Rattle.dfdl_terms.specs.declared.delimiters.Delimiters.{Delimiters}
 use Rattle.dfdl_terms.specs.Rows.{IsPrimitive}
 use Rattle.dfdl_terms.specs.declared.row.Primitive.{Primitive}
-use Rattle.dfdl_compile.specs.Components.{delimiters_of, empty_primitive_at, nil_primitive_at, prefix_primitive_at, primitive_at, primitives_of}
+use Rattle.dfdl_compile.specs.Components.{delimiters_of, empty_primitive_at, nil_primitive_at, prefix_primitive_at, primitive_at, primitives_of, tried_primitive_at}
 use Rattle.dfdl_compile.specs.Delimiters.{initiator_list_by, separator_list_by, terminator_list_by}
-use Rattle.dfdl_compile.specs.Primitives.{HasWrittenText, a_byte, empty_primitive_by, nil_primitive_by, prefix_primitive_by, primitive_by, primitive_if}
+use Rattle.dfdl_compile.specs.Primitives.{HasWrittenText, a_byte, empty_primitive_by, nil_primitive_by, prefix_primitive_by, primitive_by, primitive_if, tried_primitive_by}
 use Rattle.dfdl_compile.proofs.Fitting.{all_within, each, twice}
 use Rattle.dfdl_compile.proofs.Hiding.{judgement_if}
 
 -- what holds of a byte, of each primitive that is judged, of that of each prefix, and of those of each nil and each empty
--- representation holds of those of an element
+-- representation, of required and of tried occurrences, holds of those of an element
 module _ (P : Primitive → Type 0) (byte : P a_byte) (purpose : Purpose) (refused : Site → Bool) (documents : List SchemaDocument) where
   by_some : (o : Option Primitive) → ((p : Primitive) → o ≡ Some p → P p) → P (unwrap_or o a_byte)
   by_some None holds = byte
@@ -54,11 +54,17 @@ module _ (P : Primitive → Type 0) (byte : P a_byte) (purpose : Purpose) (refus
   by_nil own true holds = by_some (others_at purpose refused documents own).nil holds
   by_nil own false holds = byte
 
-  by_empty : (own : Site) (b : Bool) → ((p : Primitive) → (others_at purpose refused documents own).empty ≡ Some p → P p)
+  by_empty : (own : Site) (b : Bool) → ((p : Primitive) → (others_at purpose refused documents own).required.empty ≡ Some p → P p)
       → P (empty_primitive_by (judgement_if purpose refused documents own b))
   unfolding judgement_if
-  by_empty own true holds = by_some (others_at purpose refused documents own).empty holds
+  by_empty own true holds = by_some (others_at purpose refused documents own).required.empty holds
   by_empty own false holds = byte
+
+  by_tried : (own : Site) (b : Bool) → ((p : Primitive) → (others_at purpose refused documents own).where_tried.empty ≡ Some p → P p)
+      → P (tried_primitive_by (judgement_if purpose refused documents own b))
+  unfolding judgement_if
+  by_tried own true holds = by_some (others_at purpose refused documents own).where_tried.empty holds
+  by_tried own false holds = byte
 
   holds_at : (own : Site) → ((p : Primitive) → judged purpose refused documents own ≡ Some p → P p) → P (primitive_at purpose refused documents own)
   unfolding judgement_at judgement_if
@@ -73,10 +79,15 @@ module _ (P : Primitive → Type 0) (byte : P a_byte) (purpose : Purpose) (refus
   unfolding judgement_at judgement_if
   nil_holds_at own holds = by_nil own (is_component (role_of documents own)) holds
 
-  empty_holds_at : (own : Site) → ((p : Primitive) → (others_at purpose refused documents own).empty ≡ Some p → P p)
+  empty_holds_at : (own : Site) → ((p : Primitive) → (others_at purpose refused documents own).required.empty ≡ Some p → P p)
       → P (empty_primitive_at purpose refused documents own)
   unfolding judgement_at judgement_if
   empty_holds_at own holds = by_empty own (is_component (role_of documents own)) holds
+
+  tried_holds_at : (own : Site) → ((p : Primitive) → (others_at purpose refused documents own).where_tried.empty ≡ Some p → P p)
+      → P (tried_primitive_at purpose refused documents own)
+  unfolding judgement_at judgement_if
+  tried_holds_at own holds = by_tried own (is_component (role_of documents own)) holds
 
   holds_of_each : (f : Site → Primitive) → ((own : Site) → P (f own)) → All P (for_each documents f)
   holds_of_each f holds = each (IsSite documents) P f (λ own within. holds own) (all_sites documents) (all_within documents)
@@ -84,30 +95,37 @@ module _ (P : Primitive → Type 0) (byte : P a_byte) (purpose : Purpose) (refus
   holds_of : ((own : Site) (p : Primitive) → judged purpose refused documents own ≡ Some p → P p)
       → ((own : Site) (f : PrefixForm) → form_of_prefix purpose refused documents own ≡ Some f → P f.primitive)
       → ((own : Site) (p : Primitive) → (others_at purpose refused documents own).nil ≡ Some p → P p)
-      → ((own : Site) (p : Primitive) → (others_at purpose refused documents own).empty ≡ Some p → P p)
+      → ((own : Site) (p : Primitive) → (others_at purpose refused documents own).required.empty ≡ Some p → P p)
+      → ((own : Site) (p : Primitive) → (others_at purpose refused documents own).where_tried.empty ≡ Some p → P p)
       → (tables : List Primitive) → tables ≡ primitives_of purpose refused documents → All P tables
   unfolding primitives_of
-  holds_of holds prefixes nils empties tables are = subst (λ (ps : List Primitive). All P ps) (sym are)
+  holds_of holds prefixes nils empties tried tables are = subst (λ (ps : List Primitive). All P ps) (sym are)
       (All-append P (for_each documents (primitive_at purpose refused documents))
       (for_each documents (prefix_primitive_at purpose refused documents)
-      ++ (for_each documents (nil_primitive_at purpose refused documents) ++ for_each documents (empty_primitive_at purpose refused documents)))
+      ++ (for_each documents (nil_primitive_at purpose refused documents)
+      ++ (for_each documents (empty_primitive_at purpose refused documents) ++ for_each documents (tried_primitive_at purpose refused documents))))
       (holds_of_each (primitive_at purpose refused documents) (λ own. holds_at own (holds own)))
       (All-append P (for_each documents (prefix_primitive_at purpose refused documents))
-      (for_each documents (nil_primitive_at purpose refused documents) ++ for_each documents (empty_primitive_at purpose refused documents))
+      (for_each documents (nil_primitive_at purpose refused documents)
+      ++ (for_each documents (empty_primitive_at purpose refused documents) ++ for_each documents (tried_primitive_at purpose refused documents)))
       (holds_of_each (prefix_primitive_at purpose refused documents) (λ own. prefix_holds_at own (prefixes own)))
-      (All-append P (for_each documents (nil_primitive_at purpose refused documents)) (for_each documents (empty_primitive_at purpose refused documents))
+      (All-append P (for_each documents (nil_primitive_at purpose refused documents))
+      (for_each documents (empty_primitive_at purpose refused documents) ++ for_each documents (tried_primitive_at purpose refused documents))
       (holds_of_each (nil_primitive_at purpose refused documents) (λ own. nil_holds_at own (nils own)))
-      (holds_of_each (empty_primitive_at purpose refused documents) (λ own. empty_holds_at own (empties own))))))
+      (All-append P (for_each documents (empty_primitive_at purpose refused documents)) (for_each documents (tried_primitive_at purpose refused documents))
+      (holds_of_each (empty_primitive_at purpose refused documents) (λ own. empty_holds_at own (empties own)))
+      (holds_of_each (tried_primitive_at purpose refused documents) (λ own. tried_holds_at own (tried own)))))))
 
 -- the table is that of the documents
 pub tables_are : (purpose : Purpose) (refused : Site → Bool) (documents : List SchemaDocument) (judgements : List Judgement) (tables : List Primitive)
     → judgements ≡ for_each documents (judgement_at purpose refused documents)
     → tables ≡ map primitive_by judgements
-    ++ (map prefix_primitive_by judgements ++ (map nil_primitive_by judgements ++ map empty_primitive_by judgements))
+    ++ (map prefix_primitive_by judgements
+    ++ (map nil_primitive_by judgements ++ (map empty_primitive_by judgements ++ map tried_primitive_by judgements)))
     → tables ≡ primitives_of purpose refused documents
 unfolding primitives_of
 tables_are purpose refused documents judgements tables told are =
-    are ∙ (λ i. own i ++ (prefixes i ++ (nils i ++ empties i)))
+    are ∙ (λ i. own i ++ (prefixes i ++ (nils i ++ (empties i ++ tried i))))
   where
     at_each : (f : Judgement → Primitive) → map f judgements ≡ for_each documents (λ (s : Site). f (judgement_at purpose refused documents s))
     at_each f = ap (map f) told ∙ twice f (judgement_at purpose refused documents) (all_sites documents)
@@ -123,6 +141,9 @@ tables_are purpose refused documents judgements tables told are =
 
     empties : map empty_primitive_by judgements ≡ for_each documents (empty_primitive_at purpose refused documents)
     empties = at_each empty_primitive_by
+
+    tried : map tried_primitive_by judgements ≡ for_each documents (tried_primitive_at purpose refused documents)
+    tried = at_each tried_primitive_by
 
 -- so are the lists of delimiters
 pub lists_are : (purpose : Purpose) (refused : Site → Bool) (documents : List SchemaDocument) (judgements : List Judgement) (lists : List Delimiters)
@@ -145,14 +166,16 @@ pub bounded : (purpose : Purpose) (refused : Site → Bool) (documents : List Sc
     → ((purpose : Purpose) (refused : Site → Bool) (documents : List SchemaDocument) (own : Site) (f : PrefixForm) → form_of_prefix purpose refused documents own ≡ Some f
     → IsPrimitive f.primitive)
     → ((purpose : Purpose) (refused : Site → Bool) (documents : List SchemaDocument) (own : Site) (p : Primitive) → (others_at purpose refused documents own).nil ≡ Some p → IsPrimitive p)
-    → ((purpose : Purpose) (refused : Site → Bool) (documents : List SchemaDocument) (own : Site) (p : Primitive) → (others_at purpose refused documents own).empty ≡ Some p
+    → ((purpose : Purpose) (refused : Site → Bool) (documents : List SchemaDocument) (own : Site) (p : Primitive) → (others_at purpose refused documents own).required.empty ≡ Some p
+    → HasWrittenText p → IsPrimitive p)
+    → ((purpose : Purpose) (refused : Site → Bool) (documents : List SchemaDocument) (own : Site) (p : Primitive) → (others_at purpose refused documents own).where_tried.empty ≡ Some p
     → HasWrittenText p → IsPrimitive p)
     → (tables : List Primitive) → tables ≡ primitives_of purpose refused documents → All HasWrittenText tables → All IsPrimitive tables
-bounded purpose refused documents law prefixes nils empties tables are written =
+bounded purpose refused documents law prefixes nils empties tried tables are written =
     let each_if : All IsBoundedIf tables = holds_of IsBoundedIf
     (λ text. record { some = omega arith; few = omega arith; short = omega arith; places = omega arith })
     purpose refused documents (λ own p is text. law purpose refused documents own p is) (λ own f is text. prefixes purpose refused documents own f is)
-    (λ own p is text. nils purpose refused documents own p is) (empties purpose refused documents) tables are in
+    (λ own p is text. nils purpose refused documents own p is) (empties purpose refused documents) (tried purpose refused documents) tables are in
     λ k d less. each_if k d less (written k d less)
 
 -- each for unparsing is a whole unsigned integer
@@ -165,7 +188,8 @@ wholes purpose refused documents unparsing law none normal tables are =
     holds_of IsWhole (record { bits = refl; kind = refl; bits_by = refl; point = refl }) Unparsing refused documents (law refused documents)
     (λ own f is. absurd (no_form (none refused documents own) is))
     (λ own p is. absurd (no_form (ap (λ (o : OtherRepresentations). o.nil) (normal refused documents own)) is))
-    (λ own p is. absurd (no_form (ap (λ (o : OtherRepresentations). o.empty) (normal refused documents own)) is)) tables
+    (λ own p is. absurd (no_form (ap (λ (o : OtherRepresentations). o.required.empty) (normal refused documents own)) is))
+    (λ own p is. absurd (no_form (ap (λ (o : OtherRepresentations). o.where_tried.empty) (normal refused documents own)) is)) tables
     (are ∙ ap (λ (q : Purpose). primitives_of q refused documents) unparsing)
   where
     no_form : {X : Type 0} {o : Option X} {x : X} → o ≡ None → o ≡ Some x → ⊥
@@ -181,9 +205,9 @@ length_lists documents f = length-map (all_sites documents) f ∙ length_all doc
 
 -- how many primitives there are
 abbrev pub count_primitives : List SchemaDocument → ℕ
-count_primitives documents = count_of documents + (count_of documents + (count_of documents + count_of documents))
+count_primitives documents = count_of documents + (count_of documents + (count_of documents + (count_of documents + count_of documents)))
 
--- there are four times as many primitives as elements
+-- there are five times as many primitives as elements
 pub length_primitives : (purpose : Purpose) (refused : Site → Bool) (documents : List SchemaDocument) → length (primitives_of purpose refused documents) ≡ count_primitives documents
 unfolding primitives_of
 length_primitives purpose refused documents =
@@ -191,10 +215,15 @@ length_primitives purpose refused documents =
     let prefixes = length_each documents (prefix_primitive_at purpose refused documents) in
     let nils = length_each documents (nil_primitive_at purpose refused documents) in
     let empties = length_each documents (empty_primitive_at purpose refused documents) in
-    let last = length-append (for_each documents (nil_primitive_at purpose refused documents)) (for_each documents (empty_primitive_at purpose refused documents)) in
+    let tried = length_each documents (tried_primitive_at purpose refused documents) in
+    let both = length-append (for_each documents (empty_primitive_at purpose refused documents)) (for_each documents (tried_primitive_at purpose refused documents)) in
+    let last = length-append (for_each documents (nil_primitive_at purpose refused documents))
+    (for_each documents (empty_primitive_at purpose refused documents) ++ for_each documents (tried_primitive_at purpose refused documents)) in
     let behind = length-append (for_each documents (prefix_primitive_at purpose refused documents))
-    (for_each documents (nil_primitive_at purpose refused documents) ++ for_each documents (empty_primitive_at purpose refused documents)) in
+    (for_each documents (nil_primitive_at purpose refused documents)
+    ++ (for_each documents (empty_primitive_at purpose refused documents) ++ for_each documents (tried_primitive_at purpose refused documents))) in
     let all = length-append (for_each documents (primitive_at purpose refused documents))
     (for_each documents (prefix_primitive_at purpose refused documents)
-    ++ (for_each documents (nil_primitive_at purpose refused documents) ++ for_each documents (empty_primitive_at purpose refused documents))) in
-    omega (arith, all, behind, last, own, prefixes, nils, empties)
+    ++ (for_each documents (nil_primitive_at purpose refused documents)
+    ++ (for_each documents (empty_primitive_at purpose refused documents) ++ for_each documents (tried_primitive_at purpose refused documents)))) in
+    omega (arith, all, behind, last, both, own, prefixes, nils, empties, tried)

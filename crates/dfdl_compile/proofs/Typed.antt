@@ -25,14 +25,14 @@ use Rattle.dfdl_terms.specs.declared.representations.Representations.{Representa
 use Rattle.dfdl_terms.specs.Rows.{Table}
 use Rattle.dfdl_terms.specs.declared.row.Primitive.{Primitive}
 use Rattle.dfdl_terms.specs.declared.row.Row.{Row}
-use Rattle.dfdl_terms.specs.declared.row.Row.TheVariants.{Leaf, Elem, Group, Skip, Align, Initiator, Terminator, Separator, Scope, Boxed, PrefixedLeaf, PrefixedBox, MeasuredLeaf, MeasuredBox, Repeat, Counted as CountedRow, Optional, Choice, Dispatch, Statement, Concluded, Hidden, Separated as SeparatedRow}
+use Rattle.dfdl_terms.specs.declared.row.Row.TheVariants.{Leaf, Elem, Group, Skip, Align, Initiator, Terminator, Separator, Scope, Boxed, PrefixedLeaf, PrefixedBox, MeasuredLeaf, MeasuredBox, Repeat, Counted as CountedRow, Optional, Choice, Dispatch, Statement, Concluded, Hidden, Spanned, Instance, Separated as SeparatedRow}
 use Rattle.dfdl_rows.specs.declared.component.Counted.{Counted}
 use Rattle.dfdl_rows.specs.declared.component.LeafLength.{LeafLength}
 use Rattle.dfdl_rows.specs.declared.component.Separated.{Separated}
 use Rattle.dfdl_rows.specs.Leaves.{HaveLeaves, HaveBareLeaves, IsAmong, IsCalculated, IsLeafOf}
 use Rattle.dfdl_rows.specs.declared.component.Component.{Component}
 use Rattle.dfdl_rows.specs.declared.component.Component.TheVariants.{Sequence, SimpleElement, CalculatedElement}
-use Rattle.dfdl_compile.specs.Components.{choice_by, component_at, components_of, empty_primitive_at, framing_of, nil_primitive_at, prefix_primitive_at, primitive_at, primitives_of, separator_number}
+use Rattle.dfdl_compile.specs.Components.{choice_by, component_at, components_of, empty_primitive_at, framing_of, nil_primitive_at, prefix_primitive_at, primitive_at, primitives_of, separator_number, tried_primitive_at}
 use Rattle.dfdl_compile.specs.Statements.{first_statement, noted_of, calculation_number}
 use Rattle.dfdl_compile.specs.Delimiters.{separated_by}
 use Rattle.dfdl_compile.specs.Primitives.{CalculatesType, HasTypedLeaves, HasBareTypedLeaves, IsLeafOfType, IsOfType, a_byte}
@@ -54,7 +54,7 @@ module _ (purpose : Purpose) (refused : Site → Bool) (documents : List SchemaD
       by_component purpose refused documents own
       (λ (c : Component). c ≡ SimpleElement name simple prim framing own_length tried scanned occurs often
       → (type_of (primitive_at purpose refused documents own) ≡ simple) × (number_of documents own ≡ prim))
-      (λ is. absurd (cc)) (λ text told is. absurd (cc)) (by_kind (kind_at documents own))
+      (λ is. absurd (cc)) (λ text told is. absurd (cc)) (λ dispatch framed initiated other keyed holds is. absurd (cc)) (by_kind (kind_at documents own))
     where
       no_choice : (q : Purpose) (f : Framing) (separated : Option Separated) (initiated : Bool)
           → choice_by q f separated initiated ≡ SimpleElement name simple prim framing own_length tried scanned occurs often → ⊥
@@ -88,7 +88,8 @@ module _ (purpose : Purpose) (refused : Site → Bool) (documents : List SchemaD
     where
       behind : List Primitive
       behind = for_each documents (prefix_primitive_at purpose refused documents)
-          ++ (for_each documents (nil_primitive_at purpose refused documents) ++ for_each documents (empty_primitive_at purpose refused documents))
+          ++ (for_each documents (nil_primitive_at purpose refused documents)
+          ++ (for_each documents (empty_primitive_at purpose refused documents) ++ for_each documents (tried_primitive_at purpose refused documents)))
 
   -- the leaf of a simple element among the components has the element's type
   among_typed : (simple : Simple) (prim : ℕ) → IsAmong (map (component_at purpose refused documents) (all_sites documents)) simple prim
@@ -132,6 +133,8 @@ module _ (purpose : Purpose) (refused : Site → Bool) (documents : List SchemaD
   leaf_typed simple (Some (Statement statement)) one = absurd one
   leaf_typed simple (Some (Concluded behind inside)) one = absurd one
   leaf_typed simple (Some (Hidden inside)) one = absurd one
+  leaf_typed simple (Some (Spanned inside)) one = absurd one
+  leaf_typed simple (Some (Instance statement inside)) one = absurd one
   leaf_typed simple (Some (SeparatedRow policy position initiated slots)) one = absurd one
   leaf_typed simple None one = absurd one
 
@@ -147,7 +150,8 @@ module _ (purpose : Purpose) (refused : Site → Bool) (documents : List SchemaD
   calculated_component own name simple statement framing =
       by_component purpose refused documents own
       (λ (c : Component). c ≡ CalculatedElement name simple statement framing → IsCalculatedAt own simple statement)
-      (λ is. absurd (cc)) (λ text told is. record { text = text; told = told; typed = cc; numbered = cc }) (by_kind (kind_at documents own))
+      (λ is. absurd (cc)) (λ text told is. record { text = text; told = told; typed = cc; numbered = cc })
+      (λ dispatch framed initiated other keyed holds is. absurd (cc)) (by_kind (kind_at documents own))
     where
       no_choice : (q : Purpose) (f : Framing) (separated : Option Separated) (initiated : Bool)
           → choice_by q f separated initiated ≡ CalculatedElement name simple statement framing → ⊥

@@ -29,6 +29,7 @@ by_statement simple noted (any.Pattern test) text is made = subst (λ (x : Sourc
 by_statement simple noted (any.Expression test) text is made = subst (λ (x : Source). IsOfSource x (any.Expression test)) is made
 by_statement simple noted (any.Setting setting) text is made = subst (λ (x : Source). IsOfSource x (any.Setting setting)) is made
 by_statement simple noted (any.Question question) text is made = subst (λ (x : Source). IsOfSource x (any.Question question)) is made
+by_statement simple noted (any.Opening opening) text is made = subst (λ (x : Source). IsOfSource x (any.Opening opening)) is made
 
 by_place : (simple : Simple) (o : Option Noted) (p : Option Statement) → MatchOption o (Unit {0}) (λ noted. IsSomeAnd p (IsAsWritten noted))
     → IsNotedCalculation simple o → CalculatesType simple p

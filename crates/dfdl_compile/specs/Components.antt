@@ -9,6 +9,7 @@ use Rattle.dfdl_components.specs.declared.site.Site.{Site}
 use Rattle.dfdl_components.specs.Recursion.{count_of, number_of}
 use Rattle.dfdl_checks.specs.Numbers.{type_of}
 use Rattle.dfdl_checks.specs.declared.measures.MeasureForm.{MeasureForm}
+use Rattle.dfdl_checks.specs.declared.tried.EmptyRepresentation.{EmptyRepresentation}
 use Rattle.dfdl_checks.specs.declared.tried.OtherRepresentations.{OtherRepresentations}
 use Rattle.dfdl_checks.specs.declared.prefixes.PrefixForm.{PrefixForm}
 use Rattle.dfdl_checks.specs.declared.purpose.Purpose.{Purpose}
@@ -28,8 +29,10 @@ use Rattle.dfdl_terms.specs.declared.occurs.Occurs.{Occurs}
 use Rattle.dfdl_terms.specs.declared.prefix.Measure.{Measure}
 use Rattle.dfdl_terms.specs.declared.prefix.Prefix.{Prefix}
 use Rattle.dfdl_terms.specs.declared.representations.Representations.{Representations}
+use Rattle.dfdl_terms.specs.declared.representations.WhereTried.{WhereTried}
 use Rattle.dfdl_terms.specs.declared.row.Primitive.{Primitive}
 use Rattle.dfdl_rows.specs.Components.{Schema}
+use Rattle.dfdl_rows.specs.declared.component.BranchKey.{BranchKey}
 use Rattle.dfdl_rows.specs.declared.component.ContentBox.{ContentBox}
 use Rattle.dfdl_rows.specs.declared.component.ContentBox.TheVariants.{Unbounded, Sized, Prefixed, Measured}
 use Rattle.dfdl_rows.specs.declared.component.Counted.{Counted}
@@ -38,13 +41,14 @@ use Rattle.dfdl_rows.specs.declared.component.LeafLength.{LeafLength}
 use Rattle.dfdl_rows.specs.declared.component.LeafLength.TheVariants as leaf_length
 use Rattle.dfdl_rows.specs.declared.component.Component.{Component}
 use Rattle.dfdl_rows.specs.declared.component.Component.TheVariants.{Sequence, Choice, ComplexElement, SimpleElement, CalculatedElement, Hidden}
+use Rattle.dfdl_rows.specs.declared.component.Dispatch.{Dispatch}
 use Rattle.dfdl_rows.specs.declared.component.Separated.{Separated}
 use Rattle.dfdl_rows.specs.declared.refusal.Refusal.{Refusal}
 use Rattle.dfdl_terms.specs.declared.delimiters.Delimiters.{Delimiters}
 use Rattle.dfdl_written.specs.Noting.{calculated_type}
-use Rattle.dfdl_compile.specs.Statements.{calculation_number, count_number, first_statement, is_set_first, measure_number}
+use Rattle.dfdl_compile.specs.Statements.{calculation_number, count_number, first_statement, is_set_first, key_number, measure_number}
 use Rattle.dfdl_compile.specs.Delimiters.{framing_by, initiator_list_by, separated_by, separator_list_by, terminator_list_by}
-use Rattle.dfdl_compile.specs.Primitives.{empty_primitive_by, is_scanned, nil_primitive_by, prefix_primitive_by, primitive_by}
+use Rattle.dfdl_compile.specs.Primitives.{empty_primitive_by, is_scanned, nil_primitive_by, prefix_primitive_by, primitive_by, tried_primitive_by}
 
 -- the local name of an element
 abbrev pub element_name : List SchemaDocument → Site → List ℕ
@@ -60,10 +64,14 @@ prefix_number documents own = count_of documents + number_of documents own
 abbrev pub nil_number : List SchemaDocument → Site → ℕ
 nil_number documents own = count_of documents + prefix_number documents own
 
--- The number of the primitive that an element's empty representation is read by: those of empty representations stand behind those
--- of nil ones, in the same order.
+-- The number of the primitive that the empty representation of an element's required occurrence is read by: those stand behind those of
+-- nil representations, in the same order.
 abbrev pub empty_number : List SchemaDocument → Site → ℕ
 empty_number documents own = count_of documents + nil_number documents own
+
+-- The same of an occurrence that is tried: those stand behind those of required ones, in the same order.
+abbrev pub tried_number : List SchemaDocument → Site → ℕ
+tried_number documents own = count_of documents + empty_number documents own
 
 -- The number of the literals of an element's terminator: those of terminators stand behind those of all initiators, which stand in the
 -- order of the elements, in the same order.
@@ -84,14 +92,23 @@ abbrev pub number_if : {X : Type 0} → ℕ → Option X → Option ℕ
 number_if number None = None
 number_if number (Some given) = Some number
 
--- the representations of an element of which this is told, that are tried before its normal one, where the primitives of its nil and
--- its empty one have these numbers
-abbrev pub tried_by : ℕ → ℕ → OtherRepresentations → Representations
-tried_by nil empty others = record {
+-- the empty representation of an occurrence that is tried, where its primitive has this number
+abbrev pub where_tried_by : ℕ → EmptyRepresentation → WhereTried
+where_tried_by number own = record {
+  empty = number_if number own.empty;
+  refuses_empty = own.refuses_empty;
+  are_several = own.are_several;
+}
+
+-- the representations of an element of which this is told, that are tried before its normal one, where the primitives of its nil one and
+-- of the empty ones of a required occurrence and of one that is tried have these numbers
+abbrev pub tried_by : ℕ → ℕ → ℕ → OtherRepresentations → Representations
+tried_by nil empty tried others = record {
   nil = number_if nil others.nil;
-  empty = number_if empty others.empty;
-  refuses_empty = others.refuses_empty;
-  are_several = others.are_several;
+  empty = number_if empty others.required.empty;
+  refuses_empty = others.required.refuses_empty;
+  are_several = others.required.are_several;
+  where_tried = where_tried_by tried others.where_tried;
 }
 
 -- a length prefix whose primitive has this number
@@ -124,7 +141,7 @@ counted_by false None = ByBounds
 -- a choice with this framing and these separators, whose content is initiated or isn't: for unparsing it is refused, and stands for a group
 -- with nothing of its own
 abbrev pub choice_by : Purpose → Framing → Option Separated → Bool → Component
-choice_by Parsing framing separated initiated = Choice framing initiated
+choice_by Parsing framing separated initiated = Choice framing initiated None
 choice_by Unparsing framing separated initiated = Sequence framing separated initiated
 
 -- an element or a group, of which this is its name, how its values lie in the data, its number, what frames its content and the box
@@ -169,19 +186,50 @@ component_with purpose documents first own judgement =
     judgement.size
     (option_map (prefix_by (prefix_number documents own)) judgement.prefix)
     (option_map (measure_by (measure_number first judgement)) judgement.measure)
-    (tried_by (nil_number documents own) (empty_number documents own) judgement.others)
+    (tried_by (nil_number documents own) (empty_number documents own) (tried_number documents own) judgement.others)
     (option_map (separated_by (separator_number documents own)) judgement.markup.separator) judgement.initiates judgement.occurs
     (counted_by judgement.is_parsed (number_if (count_number first judgement) judgement.count)) (kind_at documents own)))
-
--- what an element of the documents is
-abbrev pub component_at : Purpose → (Site → Bool) → List SchemaDocument → Site → Component
-component_at purpose refused documents own =
-    component_with purpose documents (first_statement purpose refused documents own) own (judgement_at purpose refused documents own)
 
 -- the parts of a component that hides the group of this sequence or choice, or none
 abbrev pub parts_by : List SchemaDocument → Site → Option Site → List Site
 parts_by documents own None = parts_at documents own
 parts_by documents own (Some content) = content ∷ []
+
+-- a key of the branch at this place
+abbrev pub branch_key : ℕ → List ℕ → BranchKey
+branch_key branch text = record { branch = branch; text = text }
+
+-- the keys of branches, of which the first has this place and these are told
+abbrev pub branch_keys : (Site → List (List ℕ)) → ℕ → List Site → List BranchKey
+branch_keys told place [] = []
+branch_keys told place (branch ∷ others) = map (branch_key place) (told branch) ++ branch_keys told (place + 1) others
+
+-- the keys that are told of an element of the documents
+abbrev pub keys_at : Purpose → (Site → Bool) → List SchemaDocument → Site → List (List ℕ)
+keys_at purpose refused documents own = (judgement_at purpose refused documents own).keys
+
+-- what takes a branch by one of these keys, which the question of this number tells
+abbrev pub dispatch_with : List BranchKey → ℕ → Dispatch
+dispatch_with keys question = record { question = question; keys = keys }
+
+-- what takes a branch of an element of the documents by a key, if that is a choice by a key
+abbrev pub dispatch_at : Purpose → (Site → Bool) → List SchemaDocument → Site → Option Dispatch
+dispatch_at purpose refused documents own =
+    option_map
+    (dispatch_with (branch_keys (keys_at purpose refused documents) 0 (parts_by documents own (judgement_at purpose refused documents own).hidden)))
+    (number_if (key_number (first_statement purpose refused documents own) (judgement_at purpose refused documents own))
+    (judgement_at purpose refused documents own).key)
+
+-- a component, where it is a choice with what takes its branch by a key, if something does
+abbrev pub keyed_by : Option Dispatch → Component → Component
+keyed_by (Some dispatch) (Choice framing initiated other) = Choice framing initiated (Some dispatch)
+keyed_by _ component = component
+
+-- what an element of the documents is
+abbrev pub component_at : Purpose → (Site → Bool) → List SchemaDocument → Site → Component
+component_at purpose refused documents own =
+    keyed_by (dispatch_at purpose refused documents own)
+    (component_with purpose documents (first_statement purpose refused documents own) own (judgement_at purpose refused documents own))
 
 -- the numbers of the parts of a component
 abbrev pub part_numbers : Purpose → (Site → Bool) → List SchemaDocument → Site → List ℕ
@@ -217,17 +265,22 @@ prefix_primitive_at purpose refused documents own = prefix_primitive_by (judgeme
 abbrev pub nil_primitive_at : Purpose → (Site → Bool) → List SchemaDocument → Site → Primitive
 nil_primitive_at purpose refused documents own = nil_primitive_by (judgement_at purpose refused documents own)
 
--- the primitive of the empty representation of an element of the documents
+-- the primitive of the empty representation of a required occurrence of an element of the documents
 abbrev pub empty_primitive_at : Purpose → (Site → Bool) → List SchemaDocument → Site → Primitive
 empty_primitive_at purpose refused documents own = empty_primitive_by (judgement_at purpose refused documents own)
 
+-- the same of an occurrence that is tried
+abbrev pub tried_primitive_at : Purpose → (Site → Bool) → List SchemaDocument → Site → Primitive
+tried_primitive_at purpose refused documents own = tried_primitive_by (judgement_at purpose refused documents own)
+
 -- the primitives of the documents: those of their elements by the elements' numbers, and behind them, each in the same order, those
--- of their prefixes, of their nil representations and of their empty ones
+-- of their prefixes, of their nil representations and of the empty ones of their required and of their tried occurrences
 unfoldable pub primitives_of : Purpose → (Site → Bool) → List SchemaDocument → List Primitive
 primitives_of purpose refused documents =
     for_each documents (primitive_at purpose refused documents)
     ++ (for_each documents (prefix_primitive_at purpose refused documents)
-    ++ (for_each documents (nil_primitive_at purpose refused documents) ++ for_each documents (empty_primitive_at purpose refused documents)))
+    ++ (for_each documents (nil_primitive_at purpose refused documents)
+    ++ (for_each documents (empty_primitive_at purpose refused documents) ++ for_each documents (tried_primitive_at purpose refused documents))))
 
 -- the literals of the initiator of an element of the documents
 abbrev pub initiator_list_at : Purpose → (Site → Bool) → List SchemaDocument → Site → Delimiters

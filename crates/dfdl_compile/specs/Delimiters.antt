@@ -8,9 +8,9 @@ use Rattle.dfdl_rows.specs.declared.component.Separated.{Separated}
 use Rattle.dfdl_terms.specs.declared.delimiters.Delimiter.{Delimiter}
 use Rattle.dfdl_terms.specs.declared.delimiters.Delimiters.{Delimiters}
 use Rattle.dfdl_terms.specs.declared.framing.Framing.{Framing}
-use Rattle.dfdl_terms.specs.declared.statement.Statements.{Statements}
 use Rattle.dfdl_breaches.specs.declared.judgement.Judgement.{Judgement}
-use Rattle.dfdl_compile.specs.Statements.{before_by, behind_by}
+use Rattle.dfdl_compile.specs.declared.stating.StatedAround.{StatedAround}
+use Rattle.dfdl_compile.specs.Statements.{before_by, behind_by, openings_by, settings_by}
 
 -- the list that stands for no delimiter
 abbrev pub no_list : Delimiters
@@ -46,12 +46,23 @@ separated_by number separator = record { list = number; position = separator.pos
 abbrev pub delimiter_by : ℕ → Delimiting → Delimiter
 delimiter_by number delimiter = record { list = number; in_nil = delimiter.in_nil; in_empty = delimiter.in_empty }
 
--- what frames the content of a component of which this is told, before and behind which these statements stand, and the literals of whose
--- initiator and terminator have these numbers
-abbrev pub framing_with : Statements → Statements → ℕ → ℕ → Judgement → Framing
-framing_with before behind initiator terminator judgement = record judgement.framing {
-  before = before;
-  behind = behind;
+-- those of a component of which this is told, where its first one has this number, and it sets variables before all else or behind all
+abbrev pub stated_around : Bool → ℕ → Judgement → StatedAround
+stated_around is_first first judgement = record {
+  before = before_by first judgement;
+  openings = openings_by is_first first judgement;
+  settings = settings_by is_first first judgement;
+  behind = behind_by is_first first judgement;
+}
+
+-- what frames the content of a component of which this is told, around which these statements stand, and the literals of whose initiator and
+-- terminator have these numbers
+abbrev pub framing_with : StatedAround → ℕ → ℕ → Judgement → Framing
+framing_with stated initiator terminator judgement = record judgement.framing {
+  before = stated.before;
+  openings = stated.openings;
+  settings = stated.settings;
+  behind = stated.behind;
   initiator = option_map (delimiter_by initiator) judgement.markup.initiator;
   terminator = option_map (delimiter_by terminator) judgement.markup.terminator;
 }
@@ -59,4 +70,4 @@ framing_with before behind initiator terminator judgement = record judgement.fra
 -- the same, where its first statement has this number, and it sets variables before all else or behind all
 abbrev pub framing_by : Bool → ℕ → ℕ → ℕ → Judgement → Framing
 framing_by is_first first initiator terminator judgement =
-    framing_with (before_by is_first first judgement) (behind_by is_first first judgement) initiator terminator judgement
+    framing_with (stated_around is_first first judgement) initiator terminator judgement

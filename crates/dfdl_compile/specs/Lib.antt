@@ -2,6 +2,7 @@ pub mod Primitives
 pub mod Statements
 pub mod Delimiters
 pub mod Components
+pub mod Keying
 pub mod Compiled
 pub mod Settling
 pub mod Builds

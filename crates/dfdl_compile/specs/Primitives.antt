@@ -11,7 +11,7 @@ use Rattle.dfdl_terms.specs.declared.representations.Representations.{Representa
 use Rattle.dfdl_terms.specs.declared.row.Primitive.{Primitive}
 use Rattle.dfdl_terms.specs.declared.row.Primitive.TheVariants.{Integer, Packed, Truth, Octets, Text, NilOctets, Default, NilValues, Pattern}
 use Rattle.dfdl_terms.specs.declared.row.Row.{Row}
-use Rattle.dfdl_terms.specs.declared.row.Row.TheVariants.{Leaf, Elem, Group, Skip, Align, Initiator, Terminator, Separator, Scope, Boxed, PrefixedLeaf, PrefixedBox, MeasuredLeaf, MeasuredBox, Repeat, Counted, Optional, Choice, Dispatch, Statement, Concluded, Hidden, Separated}
+use Rattle.dfdl_terms.specs.declared.row.Row.TheVariants.{Leaf, Elem, Group, Skip, Align, Initiator, Terminator, Separator, Scope, Boxed, PrefixedLeaf, PrefixedBox, MeasuredLeaf, MeasuredBox, Repeat, Counted, Optional, Choice, Dispatch, Statement, Concluded, Hidden, Spanned, Instance, Separated}
 use Rattle.dfdl_terms.specs.declared.statement.Statement.{Statement as AnyStatement}
 use Rattle.dfdl_terms.specs.declared.statement.Statement.TheVariants as any
 use Rattle.dfdl_terms.specs.declared.statement.Statements.{Statements}
@@ -61,9 +61,13 @@ prefix_primitive_by judgement = primitive_if judgement.prefix
 abbrev pub nil_primitive_by : Judgement → Primitive
 nil_primitive_by judgement = unwrap_or judgement.others.nil a_byte
 
--- the primitive of the empty representation of an element of which this is told
+-- the primitive of the empty representation of a required occurrence of an element of which this is told
 abbrev pub empty_primitive_by : Judgement → Primitive
-empty_primitive_by judgement = unwrap_or judgement.others.empty a_byte
+empty_primitive_by judgement = unwrap_or judgement.others.required.empty a_byte
+
+-- the same of an occurrence that is tried
+abbrev pub tried_primitive_by : Judgement → Primitive
+tried_primitive_by judgement = unwrap_or judgement.others.where_tried.empty a_byte
 
 -- a text that no bits stand for is one of characters, as UTF-8
 abbrev pub HasWrittenText : Primitive → Type 0
@@ -82,6 +86,7 @@ CalculatesType simple (Some (any.Pattern test)) = ⊥
 CalculatesType simple (Some (any.Expression test)) = ⊥
 CalculatesType simple (Some (any.Setting setting)) = ⊥
 CalculatesType simple (Some (any.Question question)) = ⊥
+CalculatesType simple (Some (any.Opening opening)) = ⊥
 
 -- the body of each simple element reads a value by a primitive of the element's type, or calculates one of the type
 abbrev pub HasTypedLeaves : Table → Type 0
@@ -113,6 +118,8 @@ IsLeafOfType primitives simple (Some (Dispatch question keys)) = ⊥
 IsLeafOfType primitives simple (Some (Statement statement)) = ⊥
 IsLeafOfType primitives simple (Some (Concluded behind inside)) = ⊥
 IsLeafOfType primitives simple (Some (Hidden inside)) = ⊥
+IsLeafOfType primitives simple (Some (Spanned inside)) = ⊥
+IsLeafOfType primitives simple (Some (Instance statement inside)) = ⊥
 IsLeafOfType primitives simple (Some (Separated policy position initiated slots)) = ⊥
 IsLeafOfType primitives simple None = ⊥
 

@@ -1,8 +1,9 @@
 -- The statements of the components of a schema: one list of those of all elements of its documents, in which those of an element stand
--- behind those of all elements before it: its tests of patterns, what sets variables, its tests of expressions, the calculation of its
--- value, and the questions how long its content is and how often it occurs ('DFDL Schema Component Model', on asserts, discriminators and
--- variables; 'Calculated Values'; 'Lengths'; 'Arrays and Optional Elements').
-use Rattle.std.specs.Prelude.{ℕ, ◌+◌, List, Bool, true, false, Option, None, Some, length, take}
+-- behind those of all elements before it: its tests of patterns, what opens instances of variables, what sets variables, its tests of
+-- expressions, the calculation of its value, and the questions how long its content is, how often it occurs and which branch is taken ('DFDL
+-- Schema Component Model', on asserts, discriminators and variables; 'Calculated Values'; 'Lengths'; 'Arrays and Optional Elements';
+-- 'Choices').
+use Rattle.std.specs.Prelude.{ℕ, suc, ◌+◌, ◌-◌, List, [], ◌∷◌, if◌then◌else◌, Bool, true, false, Option, None, Some, length, take}
 use Rattle.std.specs.List.{flat_map, sum_by}
 use Rattle.dfdl_documents.specs.Documents.{SchemaDocument}
 use Rattle.dfdl_components.specs.declared.site.Site.{Site}
@@ -11,6 +12,7 @@ use Rattle.dfdl_checks.specs.declared.purpose.Purpose.{Purpose}
 use Rattle.dfdl_checks.specs.declared.subject.Kind.{Kind}
 use Rattle.dfdl_checks.specs.declared.subject.Kind.TheVariants.{ComplexElement, SimpleElement, UncarriedElement, CalculatedElement}
 use Rattle.dfdl_chains.specs.Everywhere.{all_sites, for_each}
+use Rattle.dfdl_chains.specs.declared.settings.Setter.{Setter}
 use Rattle.dfdl_breaches.specs.declared.judgement.Judgement.{Judgement}
 use Rattle.dfdl_breaches.specs.Judging.{judgement_at}
 use Rattle.dfdl_terms.specs.declared.statement.Statements.{Statements}
@@ -29,7 +31,8 @@ count_others judgement = length judgement.tests + (length judgement.settings + l
 -- how many statements it has
 abbrev pub count_by : Judgement → ℕ
 count_by judgement =
-    count_others judgement + (count_if judgement.calculation + (count_if judgement.measure + count_if judgement.count))
+    count_others judgement
+    + (count_if judgement.calculation + (count_if judgement.measure + (count_if judgement.count + count_if judgement.key)))
 
 -- how many the elements have of which these are told
 abbrev pub counted : List Judgement → ℕ
@@ -65,12 +68,28 @@ abbrev pub if_last : Bool → ℕ → ℕ
 if_last true count = 0
 if_last false count = count
 
--- the statements before a component of which this is told, where its first one has this number
-abbrev pub before_by : Bool → ℕ → Judgement → Statements
-before_by is_first first judgement =
-    record { first = first; count = length judgement.tests + if_first is_first (length judgement.settings) }
+-- how many of those that set variables open instances; these stand before the others
+abbrev pub opening_count : List Setter → ℕ
+opening_count [] = 0
+opening_count (setter ∷ setters) = if setter.opens then suc (opening_count setters) else opening_count setters
 
--- those behind it
+-- the tests of patterns of a component of which this is told, where its first statement has this number
+abbrev pub before_by : ℕ → Judgement → Statements
+before_by first judgement = record { first = first; count = length judgement.tests }
+
+-- what opens instances of variables where it begins, as a sequence or a choice does
+abbrev pub openings_by : Bool → ℕ → Judgement → Statements
+openings_by is_first first judgement =
+    record { first = first + length judgement.tests; count = if_first is_first (opening_count judgement.settings) }
+
+-- what sets variables where it begins
+abbrev pub settings_by : Bool → ℕ → Judgement → Statements
+settings_by is_first first judgement = record {
+  first = first + (length judgement.tests + opening_count judgement.settings);
+  count = if_first is_first (length judgement.settings - opening_count judgement.settings);
+}
+
+-- the statements behind it
 abbrev pub behind_by : Bool → ℕ → Judgement → Statements
 behind_by is_first first judgement = record {
   first = first + (length judgement.tests + if_first is_first (length judgement.settings));
@@ -88,6 +107,10 @@ measure_number first judgement = calculation_number first judgement + count_if j
 -- the number of the question how often it occurs, which stands behind that
 abbrev pub count_number : ℕ → Judgement → ℕ
 count_number first judgement = measure_number first judgement + count_if judgement.measure
+
+-- the number of the question which branch is taken, which stands behind that
+abbrev pub key_number : ℕ → Judgement → ℕ
+key_number first judgement = count_number first judgement + count_if judgement.count
 
 -- the statements of an element of the documents as they are written
 abbrev pub noted_at : Purpose → (Site → Bool) → List SchemaDocument → Site → List Noted

@@ -18,7 +18,7 @@ ghost use Rattle.dfdl_compile.specs.Components.{components_of, delimiters_of, pr
 ghost use Rattle.dfdl_compile.specs.Builds.{ComesTo, ComesToFault};
 ghost use Rattle.dfdl_compile.specs.Compiled.{by_root, first_recursive, laid, told_of};
 ghost use Rattle.dfdl_compile.specs.Delimiters.{initiator_list_by, separator_list_by, terminator_list_by};
-ghost use Rattle.dfdl_compile.specs.Primitives.{HasTypedLeaves, HasBareTypedLeaves, HasWrittenText, empty_primitive_by, nil_primitive_by, prefix_primitive_by, primitive_by};
+ghost use Rattle.dfdl_compile.specs.Primitives.{HasTypedLeaves, HasBareTypedLeaves, HasWrittenText, empty_primitive_by, nil_primitive_by, prefix_primitive_by, primitive_by, tried_primitive_by};
 ghost use Rattle.dfdl_compile.specs.Settling.{Ends, Settles};
 ghost use Rattle.dfdl_compile.specs.Statements.{noted_of};
 ghost use Rattle.dfdl_checks.specs.Forms.{IsWhole};
@@ -241,7 +241,8 @@ fn tell(
     requires stated { All (IsStatedWithin schema.now) judgements.items }
     ensures primitives { IfOk result (λ told. told.primitives.items ≡ map primitive_by judgements.items
         ++ (map prefix_primitive_by judgements.items
-        ++ (map nil_primitive_by judgements.items ++ map empty_primitive_by judgements.items))) }
+        ++ (map nil_primitive_by judgements.items
+        ++ (map empty_primitive_by judgements.items ++ map tried_primitive_by judgements.items)))) }
     ensures delimiters { IfOk result (λ told. told.delimiters.items ≡ map initiator_list_by judgements.items
         ++ (map terminator_list_by judgements.items ++ map separator_list_by judgements.items)) }
     ensures noted { IfOk result (λ told. told.noted.items

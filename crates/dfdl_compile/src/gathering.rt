@@ -13,22 +13,24 @@ ghost use Rattle.dfdl_compile.specs.Components as spec;
 ghost use Rattle.dfdl_rows.specs.declared.component.Component.TheVariants.{Sequence};
 ghost use Rattle.dfdl_compile.specs.Delimiters as delimiters;
 ghost use Rattle.dfdl_compile.specs.Primitives.{primitive_by};
+ghost use Rattle.dfdl_compile.specs.Shown.{HidesElement};
 ghost use Rattle.dfdl_compile.specs.Statements as statements;
 
+use crate::keying::{dispatch_of, keyed_by};
 use crate::measuring::{box_by, counted_by, leaf_length_by, measure_by, question_if};
 use crate::primitives::{is_scanned_by, type_by};
 use crate::stating::{
-    before_by, behind_by, calculation_number, count_number, first_behind, is_set_first,
-    measure_number,
+    StatedAround, calculation_number, count_number, first_behind, is_set_first, measure_number,
+    stated_around,
 };
 use dfdl_breaches::Judgement;
 use dfdl_chains::{Numbers, declaration, kind_at};
-use dfdl_checks::{Breach, Delimiting, Kind, OtherRepresentations, Purpose};
+use dfdl_checks::{Breach, Delimiting, EmptyRepresentation, Kind, OtherRepresentations, Purpose};
 use dfdl_components::{Schema, Site};
 use dfdl_constructs::plain;
 use dfdl_forms::Simple;
 use dfdl_rows::{Component, Counted, Refusal, Separated};
-use dfdl_terms::{Delimiter, Framing, Measure, Prefix, Primitive, Representations, Statements};
+use dfdl_terms::{Delimiter, Framing, Measure, Prefix, Primitive, Representations, WhereTried};
 use dfdl_value::TextValue;
 use std::alloc::{AllocError, Global};
 
@@ -66,16 +68,28 @@ fn number_if(number: u32, primitive: &Option<Primitive>) -> Option<u32>
     }
 }
 
-// The representations that are tried before an element's normal one, where the primitives of its nil and its empty one have these
-// numbers.
-fn tried_by(nil: u32, empty: u32, others: &OtherRepresentations) -> Representations
-    ensures { result ≡ spec.tried_by nil empty others.now }
+// The empty representation of an occurrence that is tried, where its primitive has this number.
+fn where_tried_by(number: u32, own: &EmptyRepresentation) -> WhereTried
+    ensures { result ≡ spec.where_tried_by number own.now }
+{
+    WhereTried {
+        empty: number_if(number, &own.empty),
+        refuses_empty: own.refuses_empty,
+        are_several: own.are_several,
+    }
+}
+
+// The representations that are tried before an element's normal one, where the primitives of its nil one and of the empty ones of a
+// required occurrence and of one that is tried have these numbers.
+fn tried_by(nil: u32, empty: u32, tried: u32, others: &OtherRepresentations) -> Representations
+    ensures { result ≡ spec.tried_by nil empty tried others.now }
 {
     Representations {
         nil: number_if(nil, &others.nil),
-        empty: number_if(empty, &others.empty),
-        refuses_empty: others.refuses_empty,
-        are_several: others.are_several,
+        empty: number_if(empty, &others.required.empty),
+        refuses_empty: others.required.refuses_empty,
+        are_several: others.required.are_several,
+        where_tried: where_tried_by(tried, &others.where_tried),
     }
 }
 
@@ -93,20 +107,21 @@ fn delimiter_by(number: u32, delimiter: &Option<Delimiting>) -> Option<Delimiter
     }
 }
 
-// What frames the content of a component of which this is told, before and behind which these statements stand, and the literals of whose
-// initiator and terminator have these numbers.
+// What frames the content of a component of which this is told, around which these statements stand, and the literals of whose initiator and
+// terminator have these numbers.
 fn framing_with(
-    before: Statements,
-    behind: Statements,
+    stated: StatedAround,
     initiator: u32,
     terminator: u32,
     judgement: &Judgement,
 ) -> Framing
-    ensures { result ≡ delimiters.framing_with before behind initiator terminator judgement.now }
+    ensures { result ≡ delimiters.framing_with stated initiator terminator judgement.now }
 {
     Framing {
-        before,
-        behind,
+        before: stated.before,
+        openings: stated.openings,
+        settings: stated.settings,
+        behind: stated.behind,
         initiator: delimiter_by(initiator, &judgement.markup.initiator),
         terminator: delimiter_by(terminator, &judgement.markup.terminator),
         ..judgement.framing
@@ -150,7 +165,11 @@ fn choice_by(
     ensures { result ≡ spec.choice_by purpose framing separated initiated }
 {
     match purpose {
-        Purpose::Parsing => Component::Choice { framing, initiated },
+        Purpose::Parsing => Component::Choice {
+            framing,
+            initiated,
+            dispatch: None,
+        },
         Purpose::Unparsing => sequence_by(framing, separated, initiated),
     }
 }
@@ -311,9 +330,8 @@ fn framing_of(
     let initiator = numbers.number(schema, site);
     let terminator = one_list_behind(schema, numbers, initiator)?;
     let is_first = is_set_first(kind_at(schema, numbers, site));
-    let before = before_by(is_first, first, judgement)?;
-    let behind = behind_by(is_first, first, judgement)?;
-    Ok(framing_with(before, behind, initiator, terminator, judgement))
+    let stated = stated_around(is_first, first, judgement)?;
+    Ok(framing_with(stated, initiator, terminator, judgement))
 }
 
 // What an element of the documents of which this is told has by numbers, where its first statement has this one.
@@ -332,7 +350,8 @@ fn by_numbers(
     ensures measure { IfOk result (λ found. found.measure
         ≡ option_map (spec.measure_by (statements.measure_number first judgement.now)) judgement.now.measure) }
     ensures tried { IfOk result (λ found. found.tried
-        ≡ spec.tried_by (spec.nil_number schema.now site) (spec.empty_number schema.now site) judgement.now.others) }
+        ≡ spec.tried_by (spec.nil_number schema.now site) (spec.empty_number schema.now site) (spec.tried_number schema.now site)
+        judgement.now.others) }
     ensures separated { IfOk result (λ found. found.separated
         ≡ option_map (delimiters.separated_by (spec.separator_number schema.now site)) judgement.now.markup.separator) }
     ensures counted { IfOk result (λ found. found.counted
@@ -342,6 +361,7 @@ fn by_numbers(
     let prefix = one_list_behind(schema, numbers, prim)?;
     let nil = one_list_behind(schema, numbers, prefix)?;
     let empty = one_list_behind(schema, numbers, nil)?;
+    let tried = one_list_behind(schema, numbers, empty)?;
     let framing = framing_of(schema, numbers, first, site, judgement)?;
     // Those of separators stand as far behind as those of nil representations.
     let separator = nil;
@@ -353,7 +373,7 @@ fn by_numbers(
         framing,
         prefix: prefix_by(prefix, judgement),
         measure: measure_by(measure, &judgement.measure),
-        tried: tried_by(nil, empty, &judgement.others),
+        tried: tried_by(nil, empty, tried, &judgement.others),
         separated: separated_by(separator, judgement),
         counted: counted_by(judgement.is_parsed, count),
     })
@@ -393,6 +413,7 @@ pub(crate) fn components(
     requires sites { sites.now ≡ all_sites schema.now }
     requires numbers { AreNumbers schema.now numbers.now }
     requires told { length judgements.now ≡ length sites.now }
+    requires hidden { All (HidesElement schema.now) judgements.now }
     ensures { (refused : declared_site.Site → Bool)
         → judgements.now ≡ map (judgement_at purpose refused schema.now) sites.now
         → IfOk result (λ made. made.items ≡ map (spec.component_at purpose refused schema.now) sites.now) }
@@ -403,7 +424,8 @@ pub(crate) fn components(
         let site = sites[at];
         let judgement = &judgements[at];
         let component = component_with(alloc, schema, numbers, purpose, first, site, judgement)?;
-        made.push(component)?;
+        let dispatch = dispatch_of(alloc, schema, numbers, judgements, first, site, judgement)?;
+        made.push(keyed_by(dispatch, component))?;
         first = first_behind(first, judgement)?;
     }
     Ok(made)

@@ -8,6 +8,7 @@
 mod compiling;
 mod fault;
 mod gathering;
+mod keying;
 mod measuring;
 mod parts;
 mod primitives;

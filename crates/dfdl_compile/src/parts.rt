@@ -36,8 +36,8 @@ fn number_all(
     Ok(())
 }
 
-// The parts of an element that hides the group of this sequence or choice, or none, in place of those before.
-fn parts_by(
+/// The parts of an element that hides the group of this sequence or choice, or none, in place of those before.
+pub(crate) fn parts_by(
     schema: &Schema,
     numbers: &Numbers,
     site: Site,

@@ -160,6 +160,7 @@ struct Lists {
     prefixes: Vec<Primitive>,
     nils: Vec<Primitive>,
     empties: Vec<Primitive>,
+    tried: Vec<Primitive>,
     initiators: Vec<Delimiters>,
     terminators: Vec<Delimiters>,
     separators: Vec<Delimiters>,
@@ -172,6 +173,7 @@ impl Lists {
         ensures prefixes { result.prefixes.items ≡ [] }
         ensures nils { result.nils.items ≡ [] }
         ensures empties { result.empties.items ≡ [] }
+        ensures tried { result.tried.items ≡ [] }
         ensures initiators { result.initiators.items ≡ [] }
         ensures terminators { result.terminators.items ≡ [] }
         ensures separators { result.separators.items ≡ [] }
@@ -182,6 +184,7 @@ impl Lists {
             prefixes: Vec::new(alloc),
             nils: Vec::new(alloc),
             empties: Vec::new(alloc),
+            tried: Vec::new(alloc),
             initiators: Vec::new(alloc),
             terminators: Vec::new(alloc),
             separators: Vec::new(alloc),
@@ -196,6 +199,7 @@ fn lists_of(alloc: Global, judgements: Vec<Judgement>) -> Result<Lists, AllocErr
     ensures prefixes { IfOk result (λ lists. lists.prefixes.items ≡ map spec.prefix_primitive_by judgements.items) }
     ensures nils { IfOk result (λ lists. lists.nils.items ≡ map spec.nil_primitive_by judgements.items) }
     ensures empties { IfOk result (λ lists. lists.empties.items ≡ map spec.empty_primitive_by judgements.items) }
+    ensures tried { IfOk result (λ lists. lists.tried.items ≡ map spec.tried_primitive_by judgements.items) }
     ensures initiators { IfOk result (λ lists. lists.initiators.items ≡ map delimiters.initiator_list_by judgements.items) }
     ensures terminators { IfOk result (λ lists. lists.terminators.items ≡ map delimiters.terminator_list_by judgements.items) }
     ensures separators { IfOk result (λ lists. lists.separators.items ≡ map delimiters.separator_list_by judgements.items) }
@@ -214,12 +218,18 @@ fn lists_of(alloc: Global, judgements: Vec<Judgement>) -> Result<Lists, AllocErr
             calculation,
             measure,
             count,
+            key,
             ..
         } = judgement;
         lists.own.push(primitive_or_byte(primitive))?;
         lists.prefixes.push(primitive_if(prefix))?;
         lists.nils.push(primitive_or_byte(others.nil))?;
-        lists.empties.push(primitive_or_byte(others.empty))?;
+        lists
+            .empties
+            .push(primitive_or_byte(others.required.empty))?;
+        lists
+            .tried
+            .push(primitive_or_byte(others.where_tried.empty))?;
         lists.initiators.push(list_if(alloc, markup.initiator))?;
         lists.terminators.push(list_if(alloc, markup.terminator))?;
         lists
@@ -232,6 +242,7 @@ fn lists_of(alloc: Global, judgements: Vec<Judgement>) -> Result<Lists, AllocErr
             calculation,
             measure,
             count,
+            key,
         })?;
     }
     Ok(lists)
@@ -246,12 +257,13 @@ pub(crate) struct Naming {
 }
 
 /// What the rows of elements name of which this is told: their primitives, and behind them those of their length prefixes, of their nil
-/// representations and of their empty ones; the literals of their initiators, and behind them those of their terminators and separators;
+/// representations and of the empty ones of their required and of their tried occurrences; the literals of their initiators, and behind them those of their terminators and separators;
 /// and what they state.
 pub(crate) fn named(alloc: Global, judgements: Vec<Judgement>) -> Result<Naming, AllocError>
     ensures primitives { IfOk result (λ named. named.primitives.items ≡ map spec.primitive_by judgements.items
         ++ (map spec.prefix_primitive_by judgements.items
-        ++ (map spec.nil_primitive_by judgements.items ++ map spec.empty_primitive_by judgements.items))) }
+        ++ (map spec.nil_primitive_by judgements.items
+        ++ (map spec.empty_primitive_by judgements.items ++ map spec.tried_primitive_by judgements.items)))) }
     ensures delimiters { IfOk result (λ named. named.delimiters.items ≡ map delimiters.initiator_list_by judgements.items
         ++ (map delimiters.terminator_list_by judgements.items ++ map delimiters.separator_list_by judgements.items)) }
     ensures stated { IfOk result (λ named. named.stated.items ≡ map stated_by judgements.items) }
@@ -262,11 +274,13 @@ pub(crate) fn named(alloc: Global, judgements: Vec<Judgement>) -> Result<Naming,
         mut prefixes,
         mut nils,
         mut empties,
+        mut tried,
         mut initiators,
         mut terminators,
         mut separators,
         stated,
     } = lists_of(alloc, judgements)?;
+    empties.append(&mut tried)?;
     nils.append(&mut empties)?;
     prefixes.append(&mut nils)?;
     own.append(&mut prefixes)?;

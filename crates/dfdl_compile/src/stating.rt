@@ -1,8 +1,10 @@
 // The numbers of the statements of the components of a schema.
 ghost use Rattle.std.specs.Prelude.{◌≡◌, ◌+◌, length, IfOk};
+ghost use Rattle.dfdl_compile.specs.Delimiters as delimiters;
 ghost use Rattle.dfdl_compile.specs.Statements as spec;
 
 use dfdl_breaches::Judgement;
+use dfdl_chains::Setter;
 use dfdl_checks::{Kind, MeasureForm};
 use dfdl_terms::Statements;
 use dfdl_value::TextValue;
@@ -28,26 +30,43 @@ fn sum(first: u32, second: u32) -> Result<u32, AllocError>
     }
 }
 
-// How many tests of patterns there are, and how many settings and tests of expressions.
+// How many tests of patterns there are, how many set variables, how many of these open instances, and how many tests of expressions there are.
 #[derive(Clone, Copy)]
 struct Counts {
     tests: u32,
     settings: u32,
+    openings: u32,
     checks: u32,
+}
+
+// How many of those that set variables open instances.
+fn opening_count(setters: &[Setter]) -> usize
+    ensures { result ≡ spec.opening_count setters.now }
+{
+    let mut count = 0usize;
+    for setter in setters {
+        if setter.opens {
+            count += 1;
+        }
+    }
+    count
 }
 
 // Those of an element of which this is told.
 fn counted(judgement: &Judgement) -> Result<Counts, AllocError>
     ensures tests { IfOk result (λ counts. counts.tests ≡ length judgement.now.tests) }
     ensures settings { IfOk result (λ counts. counts.settings ≡ length judgement.now.settings) }
+    ensures openings { IfOk result (λ counts. counts.openings ≡ spec.opening_count judgement.now.settings) }
     ensures checks { IfOk result (λ counts. counts.checks ≡ length judgement.now.checks) }
 {
     let tests = number(judgement.tests.as_slice().len())?;
     let settings = number(judgement.settings.as_slice().len())?;
+    let openings = number(opening_count(judgement.settings.as_slice()))?;
     let checks = number(judgement.checks.as_slice().len())?;
     Ok(Counts {
         tests,
         settings,
+        openings,
         checks,
     })
 }
@@ -79,25 +98,43 @@ fn if_last(is_first: bool, count: u32) -> u32
     if is_first { 0 } else { count }
 }
 
-/// The statements before a component of which this is told, where its first one has this number.
-pub(crate) fn before_by(
-    is_first: bool,
-    first: u32,
-    judgement: &Judgement,
-) -> Result<Statements, AllocError>
-    ensures { IfOk result (λ before. before ≡ spec.before_by is_first first judgement.now) }
+// The tests of patterns of a component of which this is told, where its first statement has this number.
+fn before_by(first: u32, judgement: &Judgement) -> Result<Statements, AllocError>
+    ensures { IfOk result (λ before. before ≡ spec.before_by first judgement.now) }
 {
     let counts = counted(judgement)?;
-    let count = sum(counts.tests, if_first(is_first, counts.settings))?;
-    Ok(Statements { first, count })
+    Ok(Statements {
+        first,
+        count: counts.tests,
+    })
 }
 
-/// Those behind it.
-pub(crate) fn behind_by(
-    is_first: bool,
-    first: u32,
-    judgement: &Judgement,
-) -> Result<Statements, AllocError>
+// What opens instances of variables where it begins.
+fn openings_by(is_first: bool, first: u32, judgement: &Judgement) -> Result<Statements, AllocError>
+    ensures { IfOk result (λ openings. openings ≡ spec.openings_by is_first first judgement.now) }
+{
+    let counts = counted(judgement)?;
+    Ok(Statements {
+        first: sum(first, counts.tests)?,
+        count: if_first(is_first, counts.openings),
+    })
+}
+
+// What sets variables where it begins.
+fn settings_by(is_first: bool, first: u32, judgement: &Judgement) -> Result<Statements, AllocError>
+    ensures { IfOk result (λ settings. settings ≡ spec.settings_by is_first first judgement.now) }
+{
+    let counts = counted(judgement)?;
+    let before = sum(counts.tests, counts.openings)?;
+    let settings = counts.settings.saturating_sub(counts.openings);
+    Ok(Statements {
+        first: sum(first, before)?,
+        count: if_first(is_first, settings),
+    })
+}
+
+// The statements behind it.
+fn behind_by(is_first: bool, first: u32, judgement: &Judgement) -> Result<Statements, AllocError>
     ensures { IfOk result (λ behind. behind ≡ spec.behind_by is_first first judgement.now) }
 {
     let counts = counted(judgement)?;
@@ -105,6 +142,35 @@ pub(crate) fn behind_by(
     let first = sum(first, before)?;
     let count = sum(if_last(is_first, counts.settings), counts.checks)?;
     Ok(Statements { first, count })
+}
+
+/// The statements around the content of a component.
+#[derive(Clone, Copy)]
+pub(crate) struct StatedAround {
+    pub(crate) before: Statements,
+    pub(crate) openings: Statements,
+    pub(crate) settings: Statements,
+    pub(crate) behind: Statements,
+}
+
+/// Those of a component of which this is told, where its first one has this number, and it sets variables before all else or behind all.
+pub(crate) fn stated_around(
+    is_first: bool,
+    first: u32,
+    judgement: &Judgement,
+) -> Result<StatedAround, AllocError>
+    ensures { IfOk result (λ stated. stated ≡ delimiters.stated_around is_first first judgement.now) }
+{
+    let before = before_by(first, judgement)?;
+    let openings = openings_by(is_first, first, judgement)?;
+    let settings = settings_by(is_first, first, judgement)?;
+    let behind = behind_by(is_first, first, judgement)?;
+    Ok(StatedAround {
+        before,
+        openings,
+        settings,
+        behind,
+    })
 }
 
 // How many statements before the expressions that are properties an element has of which this is told.
@@ -160,10 +226,18 @@ pub(crate) fn count_number(first: u32, judgement: &Judgement) -> Result<u32, All
     sum(measure, count_measure(&judgement.measure))
 }
 
+/// The number of the question which branch of such a component is taken.
+pub(crate) fn key_number(first: u32, judgement: &Judgement) -> Result<u32, AllocError>
+    ensures { IfOk result (λ number. number ≡ spec.key_number first judgement.now) }
+{
+    let count = count_number(first, judgement)?;
+    sum(count, count_if(&judgement.count))
+}
+
 /// The number of the first statement behind those of an element of which this is told, where its first has this number.
 pub(crate) fn first_behind(first: u32, judgement: &Judgement) -> Result<u32, AllocError>
     ensures { IfOk result (λ behind. behind ≡ first + spec.count_by judgement.now) }
 {
-    let count = count_number(first, judgement)?;
-    sum(count, count_if(&judgement.count))
+    let key = key_number(first, judgement)?;
+    sum(key, count_if(&judgement.key))
 }

@@ -18,7 +18,7 @@ use Rattle.dfdl_paths.specs.declared.place.Start.TheVariants.{At, Inside}
 use Rattle.dfdl_surroundings.specs.Taking.{taken}
 use Rattle.dfdl_terms.specs.declared.row.Primitive.{Primitive}
 use Rattle.dfdl_terms.specs.declared.row.Row.{Row}
-use Rattle.dfdl_terms.specs.declared.row.Row.TheVariants.{Leaf, Elem, Group, Skip, Align, Initiator, Terminator, Separator, Scope, Boxed, PrefixedLeaf, PrefixedBox, MeasuredLeaf, MeasuredBox, Repeat, Counted, Optional, Choice as ChoiceRow, Dispatch, Statement, Concluded, Hidden, Separated}
+use Rattle.dfdl_terms.specs.declared.row.Row.TheVariants.{Leaf, Elem, Group, Skip, Align, Initiator, Terminator, Separator, Scope, Boxed, PrefixedLeaf, PrefixedBox, MeasuredLeaf, MeasuredBox, Repeat, Counted, Optional, Choice as ChoiceRow, Dispatch, Statement, Concluded, Hidden, Spanned, Instance, Separated}
 use Rattle.dfdl_terms.specs.Leaves.{ReadsBy, leaf as by_leaf, prefixed as by_prefix, measured as by_measure, grouped, scoped as scoped_reads, calculated as calculated_reads}
 use Rattle.dfdl_terms.specs.Rows.{AreWithin, IsWithin, NamesWithin, Nests, Table, named_by}
 use Rattle.dfdl_region.specs.declared.node.Content.{Content}
@@ -39,16 +39,18 @@ use Rattle.dfdl_grammar.specs.declared.end.End.TheVariants.{Done, Failed, Stoppe
 use Rattle.dfdl_grammar.specs.declared.end.Halt.TheVariants.{Limit}
 use Rattle.dfdl_grammar.specs.declared.instead.Instead.{Instead}
 use Rattle.dfdl_grammar.specs.declared.mark.Mark.{Mark}
-use Rattle.dfdl_grammar.specs.declared.instead.Instead.TheVariants.{Nothing, Nil, Empty}
+use Rattle.dfdl_grammar.specs.declared.instead.Instead.TheVariants.{Nothing, Nil, Empty, Tried}
 use Rattle.dfdl_grammar.specs.States.{Input, State, anchor, anchor_at}
 use Rattle.dfdl_grammar.specs.Documents.{front_at}
 use Rattle.dfdl_grammar.specs.Outcomes.{Outcome, ended, follow, spend, then_do}
-use Rattle.dfdl_grammar.specs.Leaves.{Find, Fails, Finds, FindsOctets, FindsText, content_begins, default_find, has_room, land, leaf, nil_values, program_for, read_by, reading_prim, values_in}
+use Rattle.dfdl_grammar.specs.Leaves.{Find, Fails, Finds, FindsOctets, FindsText, content_begins, default_find, has_room, land, leaf, nil_values, program_for, read_by, reading_prim, taken_as, values_in}
 use Rattle.dfdl_grammar.specs.Framing.{aligned, fill_to, has_byte, passed}
 use Rattle.dfdl_grammar.specs.Delimiters.{closes_to, lists_of, markup, opens, scoped, unscoped}
-use Rattle.dfdl_grammar.specs.Boxes.{boxed, boxed_at, bytes_up_to, pass_bytes, past_byte, rest as rest_of, unboxed}
+use Rattle.dfdl_grammar.specs.Boxes.{boxed, boxed_at, bytes_up_to, pass_bytes, past_byte, rest as rest_of, rest_from, unboxed}
+use Rattle.dfdl_grammar.specs.Spans.{span_ends, spanned, vacant, with_span}
+use Rattle.dfdl_grammar.specs.declared.span.Span.{Span}
 use Rattle.dfdl_grammar.specs.Choices.{choice}
-use Rattle.dfdl_grammar.specs.Occurrences.{occurrences}
+use Rattle.dfdl_grammar.specs.Occurrences.{as_occurrence, occurrences, occurring, untried}
 use Rattle.dfdl_grammar.specs.Slots.{Sequence, separated}
 use Rattle.dfdl_grammar.specs.Elements.{attempted, begun, close, element, left}
 use Rattle.dfdl_grammar.specs.Statements.{calculated, concluded, evaluated, is_written, start_of, statement_of, told_at, with_reads}
@@ -56,12 +58,15 @@ use Rattle.dfdl_grammar.specs.Prefixes.{bits_of_units, leaf_of, prefixed, prefix
 use Rattle.dfdl_grammar.specs.Questions.{asked_count, asked_key, measured_leaf, question_at}
 use Rattle.dfdl_grammar.specs.Rows.{below, group, meaning, row, row_at}
 use Rattle.dfdl_grammar.specs.Trees.{AreRead, HasLeaves, IsCalculation, IsInTables}
-use Rattle.dfdl_grammar.proofs.Fine.{Fills, Fine, IsRead, Reads, aside, both, closed_fine, element-ends, fine, moved, put_read, as_told, read_before, read_behind, same_or, unmarked, as_marked}
+use Rattle.dfdl_grammar.proofs.Fine.{Fills, Fine, IsRead, Reads, aside, both, closed_fine, element-ends, fine, moved, put_read, spans, take_read, as_told, read_before, read_behind, same_or, unmarked, as_marked}
 use Rattle.dfdl_grammar.proofs.Towers.{below-meaning}
 use Rattle.dfdl_grammar.proofs.Found.{value-for, whole-told}
-use Rattle.dfdl_grammar.proofs.Going.{below-goes, tried-returns, tried-stays}
+use Rattle.dfdl_grammar.proofs.Going.{below-goes, tried-returns, tried-stays, once-goes}
 use Rattle.dfdl_grammar.proofs.Grown.{Ends, Goes, Stays}
+use Rattle.dfdl_vars.specs.Kept.{entered, without_innermost}
+use Rattle.dfdl_grammar.specs.Instances.{closed_behind, instanced, opening_of}
 use Rattle.dfdl_grammar.proofs.Asked.{count-comes, key-comes}
+use Rattle.dfdl_grammar.proofs.Opened.{opened-comes}
 use Rattle.dfdl_grammar.proofs.Prefixed.{prefixed-comes}
 use Rattle.dfdl_grammar.proofs.Carried.{Carried, Carries}
 use Rattle.dfdl_grammar.proofs.Pointed.{choice-carried, occurrences-carried}
@@ -82,6 +87,7 @@ module _ (input : Input) (table : Table) (leaves : HasLeaves table) where
   IsKnown Nothing = Unit {0}
   IsKnown (Nil prim) = IsInTables table prim
   IsKnown (Empty prim) = IsInTables table prim
+  IsKnown Tried = Unit {0}
 
   nil_within : (nil : Option ℕ) → IsWithin (length table.primitives) nil → IsOk IsKnown Nil nil
   nil_within None within = tt
@@ -101,6 +107,7 @@ module _ (input : Input) (table : Table) (leaves : HasLeaves table) where
   used_is Nothing prim known is = is
   used_is (Nil other) prim known is = by_values (values_in (slice_get table.primitives other)) other prim known is
   used_is (Empty other) prim known is = known
+  used_is Tried prim known is = is
 
   known_behind : (s t : State) → Stays s t → IsKnown s.instead → IsKnown t.instead
   known_behind s t stays known = elim stays.instead [
@@ -112,29 +119,25 @@ module _ (input : Input) (table : Table) (leaves : HasLeaves table) where
   abbrev ReadsKnown : (State → Outcome) → Type 0
   ReadsKnown f = (s : State) → IsKnown s.instead → (f s).end ≡ Done → IsRead s (f s).state
 
-  hold-reads : (made : ℕ → ℕ → Content) (bytes : List ℕ) (end : ℕ) (s : State) → ((from len : ℕ) → made from len ≡ Begun → ⊥) → (room : Bool)
-      → (cond room (ended Done (record s {
-        at = end;
-        text = s.text ++ bytes;
-        nodes = with_content s.nodes s.inside (made (length s.text) (length bytes));
-      })) (ended (Stopped (Limit TextLimit) input.limits.text) s)).end ≡ Done
-      → IsRead s (cond room (ended Done (record s {
-        at = end;
-        text = s.text ++ bytes;
-        nodes = with_content s.nodes s.inside (made (length s.text) (length bytes));
-      })) (ended (Stopped (Limit TextLimit) input.limits.text) s)).state
-  hold-reads made bytes end s read true done =
-      put_read s end (s.text ++ bytes) (made (length s.text) (length bytes)) (read (length s.text) (length bytes))
-  hold-reads made bytes end s read false done = absurd (cc)
+  hold-reads : (made : ℕ → ℕ → Content) (bytes : List ℕ) (span : Span) (s : State) → ((from len : ℕ) → made from len ≡ Begun → ⊥) → (room : Bool)
+      → (cond room (ended Done (record (taken_as (made (length s.text) (length bytes)) span s) { text = s.text ++ bytes }))
+      (ended (Stopped (Limit TextLimit) input.limits.text) s)).end ≡ Done
+      → IsRead s (cond room (ended Done (record (taken_as (made (length s.text) (length bytes)) span s) { text = s.text ++ bytes }))
+      (ended (Stopped (Limit TextLimit) input.limits.text) s)).state
+  hold-reads made bytes span s read true done =
+      take_read s span.end (s.text ++ bytes) (made (length s.text) (length bytes)) (span.end - s.at) span.value
+      (read (length s.text) (length bytes))
+  hold-reads made bytes span s read false done = absurd (cc)
 
-  land-reads : (first : ℕ) (reached : Reached Find) (s : State) → ((content : Content) (end : ℕ) → reached ≡ Told (Finds content end) → content ≡ Begun → ⊥)
+  land-reads : (first : ℕ) (reached : Reached Find) (s : State) → ((content : Content) (span : Span) → reached ≡ Told (Finds content span) → content ≡ Begun → ⊥)
       → (reached ≡ Missing → ⊥) → (land input.limits first reached s).end ≡ Done → IsRead s (land input.limits first reached s).state
   land-reads first (Told (Fails cause)) s read here done = absurd (cc)
-  land-reads first (Told (Finds content end)) s read here done = put_read s end s.text content (read content end refl)
-  land-reads first (Told (FindsOctets bytes end)) s read here done =
-      hold-reads content.Octets bytes end s (λ from len same. absurd (cc)) (nat_le (length s.text + length bytes) input.limits.text) done
-  land-reads first (Told (FindsText bytes end)) s read here done =
-      hold-reads content.Text bytes end s (λ from len same. absurd (cc)) (nat_le (length s.text + length bytes) input.limits.text) done
+  land-reads first (Told (Finds content span)) s read here done =
+      take_read s span.end s.text content (span.end - s.at) span.value (read content span refl)
+  land-reads first (Told (FindsOctets bytes span)) s read here done =
+      hold-reads content.Octets bytes span s (λ from len same. absurd (cc)) (nat_le (length s.text + length bytes) input.limits.text) done
+  land-reads first (Told (FindsText bytes span)) s read here done =
+      hold-reads content.Text bytes span s (λ from len same. absurd (cc)) (nat_le (length s.text + length bytes) input.limits.text) done
   land-reads first TooFar s read here done = absurd (cc)
   land-reads first Missing s read here done = absurd (here refl)
 
@@ -151,7 +154,7 @@ module _ (input : Input) (table : Table) (leaves : HasLeaves table) where
       let a : Ask Find = program_for nil (lists_of delimiters (markup s)) primitive s.at s.stop in
       let look : ℕ → Seen = seen_in input.bytes input.limits.window (anchor s) in
       land-reads (content_begins primitive s.at) (ask look a nothing).reached s
-      (λ content end is. value-for look nil (lists_of delimiters (markup s)) primitive s.at s.stop content end is)
+      (λ content span is. value-for look nil (lists_of delimiters (markup s)) primitive s.at s.stop content span is)
       (λ missing. whole-told input.bytes input.limits.window (anchor s) a nothing missing) done
   room-reads delimiters nil primitive s false done = absurd (cc)
 
@@ -287,14 +290,14 @@ module _ (input : Input) (table : Table) (leaves : HasLeaves table) where
   -- a value that stands for the open element's
   default-reads : (v : Value) (t : State) → (land input.limits t.at (Told (default_find t.at v)) t).end ≡ Done
       → IsRead t (land input.limits t.at (Told (default_find t.at v)) t).state
-  default-reads (value.Int z) t done = put_read t t.at t.text (content.Signed z) (λ same. absurd (cc))
-  default-reads (value.Uns n) t done = put_read t t.at t.text (content.Unsigned n) (λ same. absurd (cc))
-  default-reads (value.Dec d) t done = put_read t t.at t.text (content.Decimal d) (λ same. absurd (cc))
+  default-reads (value.Int z) t done = take_read t t.at t.text (content.Signed z) (t.at - t.at) 0 (λ same. absurd (cc))
+  default-reads (value.Uns n) t done = take_read t t.at t.text (content.Unsigned n) (t.at - t.at) 0 (λ same. absurd (cc))
+  default-reads (value.Dec d) t done = take_read t t.at t.text (content.Decimal d) (t.at - t.at) 0 (λ same. absurd (cc))
   default-reads (value.Text text) t done =
-      hold-reads content.Text text t.at t (λ from len same. absurd (cc)) (nat_le (length t.text + length text) input.limits.text) done
-  default-reads (value.Truth truth) t done = put_read t t.at t.text (content.Truth truth) (λ same. absurd (cc))
+      hold-reads content.Text text (vacant t.at) t (λ from len same. absurd (cc)) (nat_le (length t.text + length text) input.limits.text) done
+  default-reads (value.Truth truth) t done = take_read t t.at t.text (content.Truth truth) (t.at - t.at) 0 (λ same. absurd (cc))
   default-reads (value.Bytes bytes) t done =
-      hold-reads content.Octets bytes t.at t (λ from len same. absurd (cc)) (nat_le (length t.text + length bytes) input.limits.text) done
+      hold-reads content.Octets bytes (vacant t.at) t (λ from len same. absurd (cc)) (nat_le (length t.text + length bytes) input.limits.text) done
 
   written-reads : (v : Value) (t : State) (written : Bool)
       → (cond written (land input.limits t.at (Told (default_find t.at v)) t) (ended (Failed (ExpressionFault 6) t.at) t)).end ≡ Done
@@ -305,6 +308,24 @@ module _ (input : Input) (table : Table) (leaves : HasLeaves table) where
   calculated-reads : (told : Result Value ℕ) → Reads (calculated input.limits told)
   calculated-reads (Ok v) t done = written-reads v t (is_written v) done
   calculated-reads (Err cause) t done = absurd (cc)
+
+  -- an instance of a variable
+  closed-fills : (s : State) (e : End) (o : Outcome) → (o.end ≡ Done → Fine s o.state) → (closed_behind e o).end ≡ Done → Fine s (closed_behind e o).state
+  closed-fills s Done o first done = as_told s o.state o.state.instead o.state.marks (without_innermost o.state.variables) (first done)
+  closed-fills s (Failed cause bit) o first done = as_told s o.state o.state.instead o.state.marks (without_innermost o.state.variables) (first done)
+  closed-fills s (Stopped cause quantity) o first done = first done
+
+  instanced-fills : (number : ℕ) (body : State → Outcome) → Fills body → Fills (instanced table number body)
+  instanced-fills number body fills s =
+      opened-comes (λ (e : End) (t : State). e ≡ Done → Fine s t) s (λ cause kept ways done. absurd (cc)) body
+      (λ kept ways done.
+      let after : State = record s { variables = kept } in
+      both s after (body after).state (as_told s s s.instead s.marks kept (fine s)) (fills after done))
+      (λ number start kept ways.
+      let inside : State = record s { variables = entered kept number start } in
+      closed-fills s (body inside).end (body inside)
+      (λ over. both s inside (body inside).state (as_told s s s.instead s.marks (entered kept number start) (fine s)) (fills inside over)))
+      table (opening_of (slice_get table.statements number))
 
   -- statements
   filling-tells : (s : State) → Tells input.limits (λ (t : State). Fine s t) (λ (e : End) (t : State). e ≡ Done → Fine s t)
@@ -331,15 +352,16 @@ module _ (input : Input) (table : Table) (leaves : HasLeaves table) where
   -- an element, where each of its representations fills what begins in it
   element-fills : (id : ℕ) (complex : Bool) (tried : Representations) (body : State → Outcome) → Goes body
       → ((instead : Instead) → IsKnown instead → Fills (attempted input id complex body instead)) → IsOk IsKnown Nil tried.nil → IsOk IsKnown Empty tried.empty
+      → IsOk IsKnown Empty tried.where_tried.empty
       → Fills (element input id complex tried body)
-  element-fills id complex tried body goes fills nil_is empty_is s =
+  element-fills id complex tried body goes fills nil_is empty_is tried_is s =
       represented-comes (λ (e : End) (t : State). e ≡ Done → Fine s t) (λ (instead : Instead) (e : End) (t : State). e ≡ Done → Fine s t) s
       (attempted input id complex body) IsKnown tt (fills Nothing tt s)
       (λ instead before marks kept same is known done.
       unmarked s (attempted input id complex body instead (again_at s before marks kept)).state before marks kept
       (fills instead known (again_at s before marks kept) done))
       (λ instead t over done. closed_fine s t (over done)) (λ cause bit t over done. absurd (cc)) (λ instead cause quantity t over. over)
-      (λ instead t over failed. absurd (cc)) (tried-stays input id complex body goes s) (tried-returns input id complex body goes s) tried nil_is empty_is
+      (λ instead t over failed. absurd (cc)) (tried-stays input id complex body goes s) (tried-returns input id complex body goes s) tried nil_is empty_is tried_is
 
   -- what was done from a state on, whatever marks are open
   module _ (s : State) where
@@ -369,6 +391,17 @@ module _ (input : Input) (table : Table) (leaves : HasLeaves table) where
   choice-fills child fills goes initiated ids s =
       choice-carried (FineBy s) (EndsBy s) (filling s) child goes (λ id. filling-carried s (child id) (fills id)) initiated ids s.marks s (fine s)
 
+  untried-fills : (s : State) (e : End) (o : Outcome) → (o.end ≡ Done → Fine s o.state) → (untried e o).end ≡ Done → Fine s (untried e o).state
+  untried-fills s Done o first done = as_told s o.state Nothing o.state.marks o.state.variables (first done)
+  untried-fills s (Failed cause bit) o first done = as_told s o.state Nothing o.state.marks o.state.variables (first done)
+  untried-fills s (Stopped cause quantity) o first done = first done
+
+  once-fills : (tried : Bool) (body : State → Outcome) → Fills body → Fills (occurring tried body)
+  once-fills tried body fills s =
+      let inside : State = as_occurrence tried s in
+      untried-fills s (body inside).end (body inside)
+      (λ over. both s inside (body inside).state (as_told s s inside.instead s.marks s.variables (fine s)) (fills inside over))
+
   occurrences-fill : (body : State → Outcome) → Fills body → Goes body → (initiated : Bool) (left : ℕ) → Fills (occurrences body initiated left)
   occurrences-fill body fills goes initiated left s =
       occurrences-carried (FineBy s) (EndsBy s) (filling s) body goes (filling-carried s body fills) initiated left s.marks s (fine s)
@@ -376,8 +409,9 @@ module _ (input : Input) (table : Table) (leaves : HasLeaves table) where
   separated-fills : (sequence : Sequence) → ((id : ℕ) → Fills (sequence.child id)) → ((id : ℕ) → Goes (sequence.child id))
       → (policy : SeparatorSuppressionPolicy) (slots : List Slot) → Fills (separated sequence policy slots)
   separated-fills sequence fills goes policy slots s =
-      separated-carried (FineBy s) (EndsBy s) (filling s) sequence goes (λ id. filling-carried s (sequence.child id) (fills id)) policy slots
-      s.marks s
+      separated-carried (FineBy s) (EndsBy s) (filling s) sequence (λ id tried. once-goes input tried (sequence.child id) (goes id))
+      (λ id tried. filling-carried s (occurring tried (sequence.child id)) (once-fills tried (sequence.child id) (fills id)))
+      (λ id. filling-carried s (sequence.child id) (fills id)) policy slots s.marks s
       (fine s)
 
   group-fills : (child : ℕ → State → Outcome) → ((id : ℕ) → Fills (child id)) → (children : List ℕ) → Fills (group child children)
@@ -408,6 +442,19 @@ module _ (input : Input) (table : Table) (leaves : HasLeaves table) where
       subst (λ (t : State). IsRead s t) (sym after)
       (read_behind s (child first s).state (group child rest (child first s).state).state (fills first s parts.0)
       (group-reads child fills goes rest at id is reads (child first s).state (known_behind s (child first s).state stays known) parts.1))
+
+  -- the lengths of a content that is done, and then the rest of its box
+  rest-from-fills : (from : ℕ) → Fills (rest_from input from)
+  rest-from-fills from s done =
+      let t : State = with_span (s.stop - from) (s.at - from) s in
+      both s t (rest_of input t).state (spans (s.stop - from) (s.at - from) s) (rest-fills t (nat_le t.stop t.at) done)
+
+  spanned-fills : (body : State → Outcome) → Fills body → Fills (spanned body)
+  spanned-fills body fills s done =
+      let parts = follow-done (body s).end (body s) (span_ends s.at) refl done in
+      let t : State = (body s).state in
+      let after : (spanned body s).state ≡ (span_ends s.at t).state = ap (λ (e : End). (follow e (body s) (span_ends s.at)).state) parts.0 in
+      subst (λ (u : State). Fine s u) (sym after) (both s t (span_ends s.at t).state (fills s parts.0) (spans (t.at - s.at) (t.at - s.at) t))
 
   unboxed-done : (end : End) (outer hidden : ℕ) (o : Outcome) → end ≡ o.end → (unboxed end outer hidden o).end ≡ Done → end ≡ Done
   unboxed-done Done outer hidden o is done = refl
@@ -451,22 +498,22 @@ module _ (input : Input) (table : Table) (leaves : HasLeaves table) where
 
   boxed-fills : (bits : ℕ) (body : State → Outcome) → Fills body → (s : State) (room : Bool)
       → (cond room
-      (let o : Outcome = then_do (body (boxed_at (s.at + bits) s)) (rest_of input) in unboxed o.end s.stop s.hidden o)
+      (let o : Outcome = then_do (body (boxed_at (s.at + bits) s)) (rest_from input s.at) in unboxed o.end s.stop s.hidden o)
       (ended (Failed LengthOutOfRange s.at) s)).end ≡ Done
       → Fine s (cond room
-      (let o : Outcome = then_do (body (boxed_at (s.at + bits) s)) (rest_of input) in unboxed o.end s.stop s.hidden o)
+      (let o : Outcome = then_do (body (boxed_at (s.at + bits) s)) (rest_from input s.at) in unboxed o.end s.stop s.hidden o)
       (ended (Failed LengthOutOfRange s.at) s)).state
   boxed-fills bits body fills s true done =
       let inside : State = boxed_at (s.at + bits) s in
       let inner : Outcome = body inside in
-      let o : Outcome = then_do inner (rest_of input) in
+      let o : Outcome = then_do inner (rest_from input s.at) in
       let over : o.end ≡ Done = unboxed-done o.end s.stop s.hidden o refl done in
-      let parts = follow-done inner.end inner (rest_of input) refl over in
-      let after : o.state ≡ (rest_of input inner.state).state = ap (λ (e : End). (follow e inner (rest_of input)).state) parts.0 in
+      let parts = follow-done inner.end inner (rest_from input s.at) refl over in
+      let after : o.state ≡ (rest_from input s.at inner.state).state = ap (λ (e : End). (follow e inner (rest_from input s.at)).state) parts.0 in
       let last : State = record o.state { stop = s.stop; hidden = s.hidden } in
       let closed : (unboxed o.end s.stop s.hidden o).state ≡ last = ap (λ (e : End). (unboxed e s.stop s.hidden o).state) over in
       let whole : Fine inside o.state = subst (λ (t : State). Fine inside t) (sym after)
-      (both inside inner.state (rest_of input inner.state).state (fills inside parts.0) (rest-fills inner.state (nat_le inner.state.stop inner.state.at) parts.1)) in
+      (both inside inner.state (rest_from input s.at inner.state).state (fills inside parts.0) (rest-from-fills s.at inner.state parts.1)) in
       subst (λ (t : State). Fine s t) (sym closed)
       (both s inside last (aside s s.at (s.at + bits) (length s.lists) s.lists)
       (both inside o.state last whole (aside o.state o.state.at s.stop s.hidden o.state.lists)))
@@ -555,7 +602,7 @@ module _ (input : Input) (table : Table) (leaves : HasLeaves table) where
         (element-fills id true tried (below input table id body) (below-goes input table id body)
         (λ instead known t over. room-complex id (below input table id body) (fills id (omega arith) body) instead t
         (nat_lt (length t.nodes) input.limits.nodes) over)
-        (nil_within tried.nil within.0) (empty_within tried.empty within.1) s) done
+        (nil_within tried.nil within.0) (empty_within tried.empty within.1) (empty_within tried.where_tried.empty within.2) s) done
     row-fills id fills (Some (Elem name (Some simple) tried behind body)) is s done =
         let this : Row = Elem name (Some simple) tried behind body in
         let less : body < id = nests id this (slice_get_within table.rows id this is) is in
@@ -565,7 +612,7 @@ module _ (input : Input) (table : Table) (leaves : HasLeaves table) where
         (element-fills id false tried (below input table id body) (below-goes input table id body)
         (λ instead known t over. room-simple id (below input table id body) (reads-below id fills body less (leaves id name simple tried behind body is))
         instead known t (nat_lt (length t.nodes) input.limits.nodes) over)
-        (nil_within tried.nil within.0) (empty_within tried.empty within.1) s) done
+        (nil_within tried.nil within.0) (empty_within tried.empty within.1) (empty_within tried.where_tried.empty within.2) s) done
     row-fills id fills (Some (Group children)) is s done = group-fills (below input table id) (λ i. fills id (omega arith) i) children s done
     row-fills id fills (Some (Skip bits)) is s done = pass-fills (s.at + bits) s (nat_le (s.at + bits) s.at) (nat_le (s.at + bits) s.stop) done
     row-fills id fills (Some (Align bits)) is s done = pass-fills (aligned bits s.at) s (nat_le (aligned bits s.at) s.at) (nat_le (aligned bits s.at) s.stop) done
@@ -611,7 +658,9 @@ module _ (input : Input) (table : Table) (leaves : HasLeaves table) where
         asked-fills (Inside s.inside) NegativeCount (λ count after. group child (replicate count body) after)
         (λ count. group-fills child (λ i. fills id (omega arith) i) (replicate count body)) (question_at table question) s done
     row-fills id fills (Some (Optional most item initiated body)) is s done =
-        occurrences-fill (below input table id body) (fills id (omega arith) body) (below-goes input table id body) initiated most s done
+        let inner : State → Outcome = below input table id body in
+        occurrences-fill (occurring true inner) (once-fills true inner (fills id (omega arith) body)) (once-goes input true inner (below-goes input table id body)) initiated most
+        s done
     row-fills id fills (Some (ChoiceRow branches initiated)) is s done =
         choice-fills (below input table id) (λ i. fills id (omega arith) i) (below-goes input table id) initiated branches s done
     row-fills id fills (Some (Dispatch question keys)) is s done =
@@ -621,9 +670,12 @@ module _ (input : Input) (table : Table) (leaves : HasLeaves table) where
     row-fills id fills (Some (Concluded behind body)) is s done =
         concluded-fills (Inside s.inside) behind s (below input table id body s) (fills id (omega arith) body s) done
     row-fills id fills (Some (Hidden body)) is s done = fills id (omega arith) body s done
+    row-fills id fills (Some (Spanned body)) is s done = spanned-fills (below input table id body) (fills id (omega arith) body) s done
+    row-fills id fills (Some (Instance statement body)) is s done =
+        instanced-fills statement (below input table id body) (fills id (omega arith) body) s done
     row-fills id fills (Some (Separated policy position initiated slots)) is s done =
         let sequence : Sequence =
-        record { input = input; delimiters = table.delimiters; child = below input table id; position = position; initiated = initiated } in
+        record { input = input; table = table; child = below input table id; position = position; initiated = initiated } in
         separated-fills sequence
         (λ i. fills id (omega arith) i) (below-goes input table id) policy slots s done
     row-fills id fills (Some (PrefixedBox prefix body)) is s done =

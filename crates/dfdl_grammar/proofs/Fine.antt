@@ -1,12 +1,13 @@
 -- A state that follows another, whose elements that began meanwhile are read.
 use Rattle.std.proofs.Common.{◌≡◌, ℕ, zero, suc, ◌+◌, ◌<◌, ◌≤◌, ◌⊎◌, inl, inr, refl, List, [], ◌∷◌, ◌++◌, length, Some, ap, sym, subst, ◌∙◌, arith, length-append}
-use Rattle.std.specs.Prelude.{slice_get}
+use Rattle.std.specs.Prelude.{slice_get, Option, None}
 use Rattle.std.proofs.lemmas.Option.{slice_get_within}
 use Rattle.dfdl_vars.specs.Kept.{Kept}
 use Rattle.dfdl_region.specs.declared.node.Node.{Node}
 use Rattle.dfdl_region.specs.declared.node.Content.{Content}
 use Rattle.dfdl_region.specs.declared.node.Content.TheVariants.{Begun}
-use Rattle.dfdl_region.specs.Nodes.{with_content}
+use Rattle.dfdl_region.specs.declared.node.Lengths.{Lengths}
+use Rattle.dfdl_region.specs.Nodes.{with_content, with_lengths}
 use Rattle.dfdl_grammar.specs.declared.end.End.TheVariants.{Done}
 use Rattle.dfdl_grammar.specs.declared.instead.Instead.{Instead}
 use Rattle.dfdl_grammar.specs.declared.mark.Mark.{Mark}
@@ -14,7 +15,9 @@ use Rattle.dfdl_grammar.specs.States.{State}
 use Rattle.dfdl_grammar.specs.Outcomes.{Outcome}
 use Rattle.dfdl_grammar.specs.Elements.{begun}
 use Rattle.dfdl_grammar.specs.Marks.{closed}
+use Rattle.dfdl_grammar.specs.Spans.{with_span}
 use Rattle.dfdl_grammar.proofs.Grown.{content-length}
+use Rattle.dfdl_grammar.proofs.Lengthened.{lengths-length, lengths-same}
 
 same_at : (nodes : List Node) (number : ℕ) (content : Content) (node : Node) → slice_get (with_content nodes number content) number ≡ Some node → node.content ≡ content
 same_at [] number content node is = absurd (cc)
@@ -93,6 +96,20 @@ put s at text content read =
       ];
     }
 
+-- lengths of the open element change no content
+pub spans : (content value : ℕ) (s : State) → Fine s (with_span content value s)
+spans content value s =
+    let lengths : Option Lengths = Some (record { content = content; value = value }) in
+    let size = lengths-length s.nodes s.inside lengths in
+    record {
+      inside = refl;
+      longer = omega arith;
+      fresh = λ i node past is unread. let within = slice_get_within (with_lengths s.nodes s.inside lengths) i node is in absurd (omega arith);
+      kept = λ i node few is unread.
+          let was = lengths-same s.nodes s.inside i lengths node is in
+          record { old = was.old; there = was.there; unread = was.content ∙ unread };
+    }
+
 -- what a row does where it is done
 abbrev pub Fills : (State → Outcome) → Type 0
 Fills f = (s : State) → (f s).end ≡ Done → Fine s (f s).state
@@ -123,6 +140,13 @@ read_before s t u one two = record {
     | inr most ↦ two.fresh s.inside node most is unread
   ];
 }
+
+-- a content that is put into the open element, and how long it is
+pub take_read : (s : State) (at : ℕ) (text : List ℕ) (made : Content) (content value : ℕ) → (made ≡ Begun → ⊥)
+    → IsRead s (with_span content value (record s { at = at; text = text; nodes = with_content s.nodes s.inside made }))
+take_read s at text made content value read =
+    let t : State = record s { at = at; text = text; nodes = with_content s.nodes s.inside made } in
+    read_before s t (with_span content value t) (put_read s at text made read) (spans content value t)
 
 pub read_behind : (s t u : State) → Fine s t → IsRead t u → IsRead s u
 read_behind s t u one two = record {
@@ -161,7 +185,7 @@ front_at (first ∷ rest) last (suc at) node few is = front_at rest last at node
 -- an element that has begun, and what is in it, which reads it, and then the outer one is open
 pub element-ends : (id : ℕ) (instead : Instead) (s t u : State) → IsRead (begun id instead s) t → u.nodes ≡ t.nodes → u.inside ≡ s.inside → Fine s u
 element-ends id instead s t u inner nodes_are inside_is =
-    let last : Node = record { element = id; parent = s.inside; content = Begun } in
+    let last : Node = record { element = id; parent = s.inside; content = Begun; lengths = None } in
     let one_more : length (s.nodes ++ last ∷ []) ≡ length s.nodes + 1 = length-append s.nodes (last ∷ []) in
     let longer = inner.fine.longer in
     let size : length u.nodes ≡ length t.nodes = ap (λ (ns : List Node). length ns) nodes_are in

@@ -42,9 +42,11 @@ use Rattle.dfdl_looks.specs.Looks.{seen_in}
 use Rattle.dfdl_looks.specs.Tallies.{Tally, nothing, saw_byte, saw_end}
 use Rattle.dfdl_looks.proofs.Resumed.{on_seen}
 use Rattle.dfdl_looks.proofs.Sequels.{ask-then}
-use Rattle.dfdl_grammar.specs.Leaves.{Find, Fails, Finds, FindsOctets, FindsText, bits_of, bytes_spanned, content_find, default_by_step, default_find, default_of_size, delimited_find, field, find_in, find_of, is_no_size, nil_find, nil_octets_find, nil_value_find, is_bytes, is_text, is_value, number_find, pattern_find, octets, octets_find, packed_find, program, program_for, text_begins, text_behind, text_find, text_of_size, text_sought, truth_find, unless_broken}
+use Rattle.dfdl_grammar.specs.Leaves.{Find, Fails, Finds, FindsOctets, FindsText, bits_of, bytes_spanned, content_find, default_by_step, default_find, default_of_size, delimited_find, field, find_in, find_of, is_no_size, nil_find, nil_octets_find, nil_value_find, is_bytes, is_text, is_value, kept_find, number_find, pattern_find, octets, octets_find, packed_find, program, program_for, text_begins, text_behind, text_find, text_of_size, text_sought, truth_find, unless_broken}
 use Rattle.dfdl_grammar.specs.Delimited.{first_step, plain, scanned}
 use Rattle.dfdl_grammar.specs.Framing.{aligned}
+use Rattle.dfdl_grammar.specs.Spans.{filled, kept_to, vacant}
+use Rattle.dfdl_grammar.specs.declared.span.Span.{Span}
 use Rattle.dfdl_grammar.specs.Nils.{are_nil, is_nil}
 use Rattle.std.specs.List.{list_any}
 
@@ -70,34 +72,34 @@ module _ (look : ℕ → Seen) (found : Find) (apart : Fails DataEnds ≡ found 
   made (suc count) k go t is = step-made count k go t (λ more u found. made count (k + 1) more u found) (look k) is
 
 -- what a value is found as isn't a beginning
-read_of : (end : ℕ) (v : Option Value) (content : Content) (n : ℕ) → find_of end v ≡ Finds content n → content ≡ Begun → ⊥
-read_of end None content n is unread = absurd (cc)
-read_of end (Some (Int z)) content n is unread = absurd (cc)
-read_of end (Some (Uns number)) content n is unread = absurd (cc)
-read_of end (Some (Dec d)) content n is unread = absurd (cc)
-read_of end (Some (Text text)) content n is unread = absurd (cc)
-read_of end (Some (TruthValue truth)) content n is unread = absurd (cc)
-read_of end (Some (Bytes bytes)) content n is unread = absurd (cc)
+read_of : (span : Span) (v : Option Value) (content : Content) (n : Span) → find_of span v ≡ Finds content n → content ≡ Begun → ⊥
+read_of span None content n is unread = absurd (cc)
+read_of span (Some (Int z)) content n is unread = absurd (cc)
+read_of span (Some (Uns number)) content n is unread = absurd (cc)
+read_of span (Some (Dec d)) content n is unread = absurd (cc)
+read_of span (Some (Text text)) content n is unread = absurd (cc)
+read_of span (Some (TruthValue truth)) content n is unread = absurd (cc)
+read_of span (Some (Bytes bytes)) content n is unread = absurd (cc)
 
-packed_read : (end : ℕ) (r : Result Value PackedFault) (content : Content) (n : ℕ) → packed_find end r ≡ Finds content n → content ≡ Begun → ⊥
-packed_read end (Ok v) content n is unread = read_of end (Some v) content n is unread
-packed_read end (Err BadNibble) content n is unread = absurd (cc)
-packed_read end (Err PastType) content n is unread = absurd (cc)
+packed_read : (span : Span) (r : Result Value PackedFault) (content : Content) (n : Span) → packed_find span r ≡ Finds content n → content ≡ Begun → ⊥
+packed_read span (Ok v) content n is unread = read_of span (Some v) content n is unread
+packed_read span (Err BadNibble) content n is unread = absurd (cc)
+packed_read span (Err PastType) content n is unread = absurd (cc)
 
-truth_read : (end : ℕ) (r : Option Bool) (content : Content) (n : ℕ) → truth_find end r ≡ Finds content n → content ≡ Begun → ⊥
-truth_read end (Some truth) content n is unread = absurd (cc)
-truth_read end None content n is unread = absurd (cc)
+truth_read : (span : Span) (r : Option Bool) (content : Content) (n : Span) → truth_find span r ≡ Finds content n → content ≡ Begun → ⊥
+truth_read span (Some truth) content n is unread = absurd (cc)
+truth_read span None content n is unread = absurd (cc)
 
-number_read : (end : ℕ) (r : Result Value NumberFault) (content : Content) (n : ℕ) → number_find end r ≡ Finds content n → content ≡ Begun → ⊥
-number_read end (Ok v) content n is unread = read_of end (Some v) content n is unread
-number_read end (Err fault.NotANumber) content n is unread = absurd (cc)
-number_read end (Err fault.PastType) content n is unread = absurd (cc)
+number_read : (span : Span) (r : Result Value NumberFault) (content : Content) (n : Span) → number_find span r ≡ Finds content n → content ≡ Begun → ⊥
+number_read span (Ok v) content n is unread = read_of span (Some v) content n is unread
+number_read span (Err fault.NotANumber) content n is unread = absurd (cc)
+number_read span (Err fault.PastType) content n is unread = absurd (cc)
 
-nil_read : (end : ℕ) (nil : Bool) (content : Content) (n : ℕ) → nil_find end nil ≡ Finds content n → content ≡ Begun → ⊥
-nil_read end true content n is unread = absurd (cc)
-nil_read end false content n is unread = absurd (cc)
+nil_read : (span : Span) (nil : Bool) (content : Content) (n : Span) → nil_find span nil ≡ Finds content n → content ≡ Begun → ⊥
+nil_read span true content n is unread = absurd (cc)
+nil_read span false content n is unread = absurd (cc)
 
-default_read : (bit : ℕ) (v : Value) (content : Content) (n : ℕ) → default_find bit v ≡ Finds content n → content ≡ Begun → ⊥
+default_read : (bit : ℕ) (v : Value) (content : Content) (n : Span) → default_find bit v ≡ Finds content n → content ≡ Begun → ⊥
 default_read bit (Int z) content n is unread = absurd (cc)
 default_read bit (Uns number) content n is unread = absurd (cc)
 default_read bit (Dec d) content n is unread = absurd (cc)
@@ -106,27 +108,30 @@ default_read bit (TruthValue truth) content n is unread = absurd (cc)
 default_read bit (Bytes bytes) content n is unread = absurd (cc)
 
 -- the bytes of a hexBinary are no value of a number
-octets_read : (end : ℕ) (r : Option (List ℕ)) (content : Content) (n : ℕ) → octets_find end r ≡ Finds content n → content ≡ Begun → ⊥
-octets_read end (Some bytes) content n is unread = absurd (cc)
-octets_read end None content n is unread = absurd (cc)
+octets_read : (span : Span) (r : Option (List ℕ)) (content : Content) (n : Span) → octets_find span r ≡ Finds content n → content ≡ Begun → ⊥
+octets_read span (Some bytes) content n is unread = absurd (cc)
+octets_read span None content n is unread = absurd (cc)
 
 -- nor is what characters are found as
-content_read : (read : TextContent) (chars : List ℕ) (end : ℕ) (content : Content) (n : ℕ) → content_find read chars end ≡ Finds content n → content ≡ Begun → ⊥
-content_read Plain chars end content n is unread = absurd (cc)
-content_read TextOctets chars end content n is unread = octets_read end (encoded_text Iso88591 chars) content n is unread
-content_read (Number form kind) chars end content n is unread = number_read end (number_reading form kind chars) content n is unread
-content_read (Zoned form) chars end content n is unread = packed_read end (zoned_reading form chars) content n is unread
-content_read (TextTruth form) chars end content n is unread = truth_read end (truth_of form chars) content n is unread
-content_read (Nil form) chars end content n is unread = nil_read end (is_nil form chars) content n is unread
+content_read : (read : TextContent) (chars : List ℕ) (span : Span) (content : Content) (n : Span) → content_find read chars span ≡ Finds content n → content ≡ Begun → ⊥
+content_read Plain chars span content n is unread = absurd (cc)
+content_read TextOctets chars span content n is unread = octets_read span (encoded_text Iso88591 chars) content n is unread
+content_read (Number form kind) chars span content n is unread = number_read span (number_reading form kind chars) content n is unread
+content_read (Zoned form) chars span content n is unread = packed_read span (zoned_reading form chars) content n is unread
+content_read (TextTruth form) chars span content n is unread = truth_read span (truth_of form chars) content n is unread
+content_read (Nil form) chars span content n is unread = nil_read span (is_nil form chars) content n is unread
+
+kept_read : (form : TextForm) (end : ℕ) (chars : List ℕ) (content : Content) (n : Span) → kept_find form end chars ≡ Finds content n → content ≡ Begun → ⊥
+kept_read form end chars content n is unread = content_read form.content chars (kept_to end form.encoding chars) content n is unread
 
 -- nor what the leaf of a primitive finds in its bytes
-found_read : (primitive : Primitive) (bit : ℕ) (bytes : List ℕ) (content : Content) (n : ℕ) → find_in primitive bit bytes ≡ Finds content n → content ≡ Begun → ⊥
+found_read : (primitive : Primitive) (bit : ℕ) (bytes : List ℕ) (content : Content) (n : Span) → find_in primitive bit bytes ≡ Finds content n → content ≡ Begun → ⊥
 found_read (Integer form) bit bytes content n is unread =
-    read_of (bit + form.bits) (integer_reading form (field_of form bytes (bit % 8))) content n is unread
+    read_of (filled bit form.bits) (integer_reading form (field_of form bytes (bit % 8))) content n is unread
 found_read (Packed form) bit bytes content n is unread =
-    packed_read (bit + 4 * form.nibbles) (packed_reading form (nibbles_in form bytes (bit % 8))) content n is unread
+    packed_read (filled bit (4 * form.nibbles)) (packed_reading form (nibbles_in form bytes (bit % 8))) content n is unread
 found_read (Truth form) bit bytes content n is unread =
-    truth_read (bit + form.bits) (truth_reading form (truth_field_of form bytes (bit % 8))) content n is unread
+    truth_read (filled bit form.bits) (truth_reading form (truth_field_of form bytes (bit % 8))) content n is unread
 found_read (Octets form) bit bytes content n is unread = absurd (cc)
 found_read (Characters form) bit bytes content n is unread = absurd (cc)
 found_read (NilOctets form) bit bytes content n is unread = absurd (cc)
@@ -135,15 +140,15 @@ found_read (NilValues form) bit bytes content n is unread = absurd (cc)
 found_read (Pattern form) bit bytes content n is unread = absurd (cc)
 
 -- what is found of a primitive is a value
-field_value : (look : ℕ → Seen) (primitive : Primitive) (bit : ℕ) (content : Content) (to : ℕ)
+field_value : (look : ℕ → Seen) (primitive : Primitive) (bit : ℕ) (content : Content) (to : Span)
     → (ask look (field primitive bit) nothing).reached ≡ Told (Finds content to) → content ≡ Begun → ⊥
 field_value look primitive bit content to is unread =
     let here = made look (Finds content to) (λ same. absurd (cc)) (bytes_spanned bit (bits_of primitive)) (bit / 8) (find_in primitive bit) nothing is in
     found_read primitive bit here.bytes content to here.is unread
 
 -- what is found of a hexBinary is no value of a number
-octets_value : (look : ℕ → Seen) (form : OctetForm) (bit : ℕ) (content : Content) (to : ℕ) (none whole : Bool)
-    → (ask look (cond none (Answer (FindsOctets [] bit)) (cond whole (field (Octets form) bit) (Answer (Fails NotFilled)))) nothing).reached
+octets_value : (look : ℕ → Seen) (form : OctetForm) (bit : ℕ) (content : Content) (to : Span) (none whole : Bool)
+    → (ask look (cond none (Answer (FindsOctets [] (vacant bit))) (cond whole (field (Octets form) bit) (Answer (Fails NotFilled)))) nothing).reached
     ≡ Told (Finds content to) → content ≡ Begun → ⊥
 octets_value look form bit content to true whole is unread = absurd (cc)
 octets_value look form bit content to false true is unread = field_value look (Octets form) bit content to is unread
@@ -154,10 +159,10 @@ pub told_one : (a b : Find) → ◌≡◌ {A = Reached Find} (Told a) (Told b) �
 told_one a b same = cc
 
 -- what is found of the characters of a text is none either
-text_value : (form : TextForm) (bit : ℕ) (look : ℕ → Seen) (content : Content) (to : ℕ) (r : Reached TextRead) (t : Tally)
+text_value : (form : TextForm) (bit : ℕ) (look : ℕ → Seen) (content : Content) (to : Span) (r : Reached TextRead) (t : Tally)
     → (go_on look (λ (text : TextRead). Answer (text_find form bit text)) r t).reached ≡ Told (Finds content to) → content ≡ Begun → ⊥
 text_value form bit look content to (Told (DoesRead chars end)) t is unread =
-    content_read form.content (trimmed form.pad chars) (text_behind form.size bit end) content to
+    kept_read form (text_behind form.size bit end) (trimmed form.pad chars) content to
     (told_one (text_find form bit (DoesRead chars end)) (Finds content to) is) unread
 text_value form bit look content to (Told HasBad) t is unread = absurd (cc)
 text_value form bit look content to (Told IsCut) t is unread = absurd (cc)
@@ -165,14 +170,14 @@ text_value form bit look content to (Told IsBoxed) t is unread = absurd (cc)
 text_value form bit look content to TooFar t is unread = absurd (cc)
 text_value form bit look content to Missing t is unread = absurd (cc)
 
-then_value : (form : TextForm) (bit : ℕ) (look : ℕ → Seen) (content : Content) (to : ℕ) (a : Ask TextRead)
+then_value : (form : TextForm) (bit : ℕ) (look : ℕ → Seen) (content : Content) (to : Span) (a : Ask TextRead)
     → (ask look (and_then a (λ (text : TextRead). Answer (text_find form bit text))) nothing).reached ≡ Told (Finds content to) → content ≡ Begun → ⊥
 then_value form bit look content to a is unread =
     let whole = ask-then look (λ (text : TextRead). Answer (text_find form bit text)) a nothing in
     text_value form bit look content to (ask look a nothing).reached (ask look a nothing).tally
     (sym (ap (λ (r : Reading Find). r.reached) whole) ∙ is) unread
 
-boxed_value : (form : TextForm) (bit first end : ℕ) (look : ℕ → Seen) (content : Content) (to : ℕ) (whole : Bool)
+boxed_value : (form : TextForm) (bit first end : ℕ) (look : ℕ → Seen) (content : Content) (to : Span) (whole : Bool)
     → (ask look (cond whole
     (and_then (text_at form.encoding form.replaces extent.Box end (first / 8)) (λ (text : TextRead). Answer (text_find form bit text)))
     (Answer (Fails NotFilled))) nothing).reached ≡ Told (Finds content to) → content ≡ Begun → ⊥
@@ -181,27 +186,27 @@ boxed_value form bit first end look content to true is unread =
 boxed_value form bit first end look content to false is unread = absurd (cc)
 
 -- so is what is found of a content that markup ends
-delimited_read : (form : TextForm) (found : DelimitedContent) (ends : Step) (content : Content) (n : ℕ)
-    → unless_broken ends (content_find form.content (plain (trimmed_content form.pad found.characters)) (8 * found.last.byte)) ≡ Finds content n
+delimited_read : (form : TextForm) (found : DelimitedContent) (ends : Step) (content : Content) (n : Span)
+    → unless_broken ends (kept_find form (8 * found.last.byte) (plain (trimmed_content form.pad found.characters))) ≡ Finds content n
     → content ≡ Begun → ⊥
 delimited_read form found (steps.Takes c escaped next) content n is unread =
-    content_read form.content (plain (trimmed_content form.pad found.characters)) (8 * found.last.byte) content n is unread
+    kept_read form (8 * found.last.byte) (plain (trimmed_content form.pad found.characters)) content n is unread
 delimited_read form found (steps.Passes next) content n is unread =
-    content_read form.content (plain (trimmed_content form.pad found.characters)) (8 * found.last.byte) content n is unread
+    kept_read form (8 * found.last.byte) (plain (trimmed_content form.pad found.characters)) content n is unread
 delimited_read form found (steps.Closes which) content n is unread =
-    content_read form.content (plain (trimmed_content form.pad found.characters)) (8 * found.last.byte) content n is unread
+    kept_read form (8 * found.last.byte) (plain (trimmed_content form.pad found.characters)) content n is unread
 delimited_read form found steps.RunsOut content n is unread =
-    content_read form.content (plain (trimmed_content form.pad found.characters)) (8 * found.last.byte) content n is unread
+    kept_read form (8 * found.last.byte) (plain (trimmed_content form.pad found.characters)) content n is unread
 delimited_read form found (steps.Fails cause) content n is unread = absurd (cc)
 
-delimited_value : (form : TextForm) (look : ℕ → Seen) (content : Content) (to : ℕ) (r : Reached DelimitedContent) (t : Tally)
+delimited_value : (form : TextForm) (look : ℕ → Seen) (content : Content) (to : Span) (r : Reached DelimitedContent) (t : Tally)
     → (go_on look (λ (found : DelimitedContent). Answer (delimited_find form found)) r t).reached ≡ Told (Finds content to) → content ≡ Begun → ⊥
 delimited_value form look content to (Told found) t is unread =
     delimited_read form found found.ends content to (told_one (delimited_find form found) (Finds content to) is) unread
 delimited_value form look content to TooFar t is unread = absurd (cc)
 delimited_value form look content to Missing t is unread = absurd (cc)
 
-then_delimited : (form : TextForm) (look : ℕ → Seen) (content : Content) (to : ℕ) (a : Ask DelimitedContent)
+then_delimited : (form : TextForm) (look : ℕ → Seen) (content : Content) (to : Span) (a : Ask DelimitedContent)
     → (ask look (and_then a (λ (found : DelimitedContent). Answer (delimited_find form found))) nothing).reached ≡ Told (Finds content to)
     → content ≡ Begun → ⊥
 then_delimited form look content to a is unread =
@@ -209,7 +214,7 @@ then_delimited form look content to a is unread =
     delimited_value form look content to (ask look a nothing).reached (ask look a nothing).tally
     (sym (ap (λ (r : Reading Find). r.reached) whole) ∙ is) unread
 
-sized_value : (form : TextForm) (size : TextSize) (lists : List Opened) (bit stop : ℕ) (look : ℕ → Seen) (content : Content) (to : ℕ)
+sized_value : (form : TextForm) (size : TextSize) (lists : List Opened) (bit stop : ℕ) (look : ℕ → Seen) (content : Content) (to : Span)
     → (ask look (text_of_size form size lists bit stop) nothing).reached ≡ Told (Finds content to) → content ≡ Begun → ⊥
 sized_value form (Bits n) lists bit stop look content to is unread =
     let first : ℕ = text_begins form.content (Bits n) bit in
@@ -220,20 +225,20 @@ sized_value form (Counted n) lists bit stop look content to is unread =
     then_value form bit look content to (text_at form.encoding form.replaces (extent.Characters n) stop (aligned 8 bit / 8)) is unread
 
 -- what is found of bytes that have to be nil is nil
-nil_octets_read : (form : NilForm) (find : Find) (content : Content) (n : ℕ) → nil_octets_find form find ≡ Finds content n → content ≡ Begun → ⊥
+nil_octets_read : (form : NilForm) (find : Find) (content : Content) (n : Span) → nil_octets_find form find ≡ Finds content n → content ≡ Begun → ⊥
 nil_octets_read form (Fails cause) content n is unread = absurd (cc)
-nil_octets_read form (Finds other end) content n is unread = absurd (cc)
-nil_octets_read form (FindsOctets bytes end) content n is unread = nil_read end (are_nil form bytes) content n is unread
-nil_octets_read form (FindsText bytes end) content n is unread = absurd (cc)
+nil_octets_read form (Finds other span) content n is unread = absurd (cc)
+nil_octets_read form (FindsOctets bytes span) content n is unread = nil_read span (are_nil form bytes) content n is unread
+nil_octets_read form (FindsText bytes span) content n is unread = absurd (cc)
 
-nil_octets_value : (form : NilForm) (look : ℕ → Seen) (content : Content) (to : ℕ) (r : Reached Find) (t : Tally)
+nil_octets_value : (form : NilForm) (look : ℕ → Seen) (content : Content) (to : Span) (r : Reached Find) (t : Tally)
     → (go_on look (λ (find : Find). Answer (nil_octets_find form find)) r t).reached ≡ Told (Finds content to) → content ≡ Begun → ⊥
 nil_octets_value form look content to (Told find) t is unread =
     nil_octets_read form find content to (told_one (nil_octets_find form find) (Finds content to) is) unread
 nil_octets_value form look content to TooFar t is unread = absurd (cc)
 nil_octets_value form look content to Missing t is unread = absurd (cc)
 
-then_nil_octets : (form : NilForm) (look : ℕ → Seen) (content : Content) (to : ℕ) (a : Ask Find)
+then_nil_octets : (form : NilForm) (look : ℕ → Seen) (content : Content) (to : Span) (a : Ask Find)
     → (ask look (and_then a (λ (find : Find). Answer (nil_octets_find form find))) nothing).reached ≡ Told (Finds content to) → content ≡ Begun → ⊥
 then_nil_octets form look content to a is unread =
     let whole = ask-then look (λ (find : Find). Answer (nil_octets_find form find)) a nothing in
@@ -241,35 +246,35 @@ then_nil_octets form look content to a is unread =
     (sym (ap (λ (r : Reading Find). r.reached) whole) ∙ is) unread
 
 -- and what is found of no bits is a value
-default_value : (v : Value) (bit : ℕ) (look : ℕ → Seen) (content : Content) (to : ℕ) (none : Bool)
+default_value : (v : Value) (bit : ℕ) (look : ℕ → Seen) (content : Content) (to : Span) (none : Bool)
     → (ask look (Answer (cond none (default_find bit v) (Fails RequiredEmpty))) nothing).reached ≡ Told (Finds content to) → content ≡ Begun → ⊥
 default_value v bit look content to true is unread =
     default_read bit v content to (told_one (default_find bit v) (Finds content to) is) unread
 default_value v bit look content to false is unread = absurd (cc)
 
 -- so is what is found of a content without bits that its first step ends
-step_read : (v : Value) (bit : ℕ) (step : Step) (content : Content) (n : ℕ) → default_by_step v bit step ≡ Finds content n → content ≡ Begun → ⊥
+step_read : (v : Value) (bit : ℕ) (step : Step) (content : Content) (n : Span) → default_by_step v bit step ≡ Finds content n → content ≡ Begun → ⊥
 step_read v bit (steps.Takes c escaped next) content n is unread = absurd (cc)
 step_read v bit (steps.Passes next) content n is unread = absurd (cc)
 step_read v bit (steps.Closes which) content n is unread = default_read bit v content n is unread
 step_read v bit steps.RunsOut content n is unread = default_read bit v content n is unread
 step_read v bit (steps.Fails cause) content n is unread = absurd (cc)
 
-step_value : (v : Value) (bit : ℕ) (look : ℕ → Seen) (content : Content) (to : ℕ) (r : Reached Step) (t : Tally)
+step_value : (v : Value) (bit : ℕ) (look : ℕ → Seen) (content : Content) (to : Span) (r : Reached Step) (t : Tally)
     → (go_on look (λ (step : Step). Answer (default_by_step v bit step)) r t).reached ≡ Told (Finds content to) → content ≡ Begun → ⊥
 step_value v bit look content to (Told step) t is unread =
     step_read v bit step content to (told_one (default_by_step v bit step) (Finds content to) is) unread
 step_value v bit look content to TooFar t is unread = absurd (cc)
 step_value v bit look content to Missing t is unread = absurd (cc)
 
-then_step : (v : Value) (bit : ℕ) (look : ℕ → Seen) (content : Content) (to : ℕ) (a : Ask Step)
+then_step : (v : Value) (bit : ℕ) (look : ℕ → Seen) (content : Content) (to : Span) (a : Ask Step)
     → (ask look (and_then a (λ (step : Step). Answer (default_by_step v bit step))) nothing).reached ≡ Told (Finds content to) → content ≡ Begun → ⊥
 then_step v bit look content to a is unread =
     let whole = ask-then look (λ (step : Step). Answer (default_by_step v bit step)) a nothing in
     step_value v bit look content to (ask look a nothing).reached (ask look a nothing).tally
     (sym (ap (λ (r : Reading Find). r.reached) whole) ∙ is) unread
 
-default_sized : (v : Value) (lists : List Opened) (size : TextSize) (bit stop : ℕ) (look : ℕ → Seen) (content : Content) (to : ℕ)
+default_sized : (v : Value) (lists : List Opened) (size : TextSize) (bit stop : ℕ) (look : ℕ → Seen) (content : Content) (to : Span)
     → (ask look (default_of_size v lists size bit stop) nothing).reached ≡ Told (Finds content to) → content ≡ Begun → ⊥
 default_sized v lists (Bits n) bit stop look content to is unread = default_value v bit look content to (is_no_size (Bits n)) is unread
 default_sized v lists (Counted n) bit stop look content to is unread = default_value v bit look content to (is_no_size (Counted n)) is unread
@@ -277,7 +282,7 @@ default_sized v lists (Delimited scan) bit stop look content to is unread =
     then_step v (aligned 8 bit) look content to (first_step lists scan bit stop) is unread
 
 -- the number of bytes that a pattern matches is one
-pattern_value : (form : PatternForm) (first : ℕ) (look : ℕ → Seen) (content : Content) (to : ℕ) (r : Reached TextRead) (t : Tally)
+pattern_value : (form : PatternForm) (first : ℕ) (look : ℕ → Seen) (content : Content) (to : Span) (r : Reached TextRead) (t : Tally)
     → (go_on look (λ (text : TextRead). Answer (pattern_find form first text)) r t).reached ≡ Told (Finds content to) → content ≡ Begun → ⊥
 pattern_value form first look content to (Told (DoesRead chars end)) t is unread = absurd (cc)
 pattern_value form first look content to (Told HasBad) t is unread = absurd (cc)
@@ -286,7 +291,7 @@ pattern_value form first look content to (Told IsBoxed) t is unread = absurd (cc
 pattern_value form first look content to TooFar t is unread = absurd (cc)
 pattern_value form first look content to Missing t is unread = absurd (cc)
 
-then_pattern : (form : PatternForm) (first : ℕ) (look : ℕ → Seen) (content : Content) (to : ℕ) (a : Ask TextRead)
+then_pattern : (form : PatternForm) (first : ℕ) (look : ℕ → Seen) (content : Content) (to : Span) (a : Ask TextRead)
     → (ask look (and_then a (λ (text : TextRead). Answer (pattern_find form first text))) nothing).reached ≡ Told (Finds content to)
     → content ≡ Begun → ⊥
 then_pattern form first look content to a is unread =
@@ -295,7 +300,7 @@ then_pattern form first look content to a is unread =
     (sym (ap (λ (r : Reading Find). r.reached) whole) ∙ is) unread
 
 -- what a leaf finds is a value, if it is no bytes
-value : (look : ℕ → Seen) (lists : List Opened) (primitive : Primitive) (bit stop : ℕ) (content : Content) (to : ℕ)
+value : (look : ℕ → Seen) (lists : List Opened) (primitive : Primitive) (bit stop : ℕ) (content : Content) (to : Span)
     → (ask look (program lists primitive bit stop) nothing).reached ≡ Told (Finds content to) → content ≡ Begun → ⊥
 value look lists (Integer form) bit stop content to is unread = field_value look (Integer form) bit content to is unread
 value look lists (Packed form) bit stop content to is unread = field_value look (Packed form) bit content to is unread
@@ -310,20 +315,20 @@ value look lists (Pattern form) bit stop content to is unread =
     then_pattern form bit look content to (text_sought form (aligned 8 bit) stop) is unread
 
 -- so is what has to be one of some values
-nil_value_read : (values : List Value) (find : Find) (content : Content) (n : ℕ) → nil_value_find values find ≡ Finds content n → content ≡ Begun → ⊥
+nil_value_read : (values : List Value) (find : Find) (content : Content) (n : Span) → nil_value_find values find ≡ Finds content n → content ≡ Begun → ⊥
 nil_value_read values (Fails cause) content n is unread = absurd (cc)
-nil_value_read values (Finds other end) content n is unread = nil_read end (list_any (is_value other) values) content n is unread
-nil_value_read values (FindsOctets bytes end) content n is unread = nil_read end (list_any (is_bytes bytes) values) content n is unread
-nil_value_read values (FindsText bytes end) content n is unread = nil_read end (list_any (is_text bytes) values) content n is unread
+nil_value_read values (Finds other span) content n is unread = nil_read span (list_any (is_value other) values) content n is unread
+nil_value_read values (FindsOctets bytes span) content n is unread = nil_read span (list_any (is_bytes bytes) values) content n is unread
+nil_value_read values (FindsText bytes span) content n is unread = nil_read span (list_any (is_text bytes) values) content n is unread
 
-nil_value_value : (values : List Value) (look : ℕ → Seen) (content : Content) (to : ℕ) (r : Reached Find) (t : Tally)
+nil_value_value : (values : List Value) (look : ℕ → Seen) (content : Content) (to : Span) (r : Reached Find) (t : Tally)
     → (go_on look (λ (find : Find). Answer (nil_value_find values find)) r t).reached ≡ Told (Finds content to) → content ≡ Begun → ⊥
 nil_value_value values look content to (Told find) t is unread =
     nil_value_read values find content to (told_one (nil_value_find values find) (Finds content to) is) unread
 nil_value_value values look content to TooFar t is unread = absurd (cc)
 nil_value_value values look content to Missing t is unread = absurd (cc)
 
-pub value-for : (look : ℕ → Seen) (nil : Option (List Value)) (lists : List Opened) (primitive : Primitive) (bit stop : ℕ) (content : Content) (to : ℕ)
+pub value-for : (look : ℕ → Seen) (nil : Option (List Value)) (lists : List Opened) (primitive : Primitive) (bit stop : ℕ) (content : Content) (to : Span)
     → (ask look (program_for nil lists primitive bit stop) nothing).reached ≡ Told (Finds content to) → content ≡ Begun → ⊥
 value-for look None lists primitive bit stop content to is unread = value look lists primitive bit stop content to is unread
 value-for look (Some values) lists primitive bit stop content to is unread =

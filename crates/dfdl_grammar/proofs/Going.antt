@@ -11,7 +11,7 @@ use Rattle.dfdl_terms.specs.declared.representations.Representations.{Representa
 use Rattle.dfdl_value.specs.declared.value.Value.{Value}
 use Rattle.dfdl_terms.specs.declared.row.Primitive.{Primitive}
 use Rattle.dfdl_terms.specs.declared.row.Row.{Row}
-use Rattle.dfdl_terms.specs.declared.row.Row.TheVariants.{Leaf, Elem, Group, Skip, Align, Initiator, Terminator, Separator, Scope, Boxed, PrefixedLeaf, PrefixedBox, MeasuredLeaf, MeasuredBox, Repeat, Counted, Optional, Choice as ChoiceRow, Dispatch, Statement, Concluded, Hidden, Separated}
+use Rattle.dfdl_terms.specs.declared.row.Row.TheVariants.{Leaf, Elem, Group, Skip, Align, Initiator, Terminator, Separator, Scope, Boxed, PrefixedLeaf, PrefixedBox, MeasuredLeaf, MeasuredBox, Repeat, Counted, Optional, Choice as ChoiceRow, Dispatch, Statement, Concluded, Hidden, Spanned, Instance, Separated}
 use Rattle.dfdl_separators.specs.declared.policy.SeparatorSuppressionPolicy.{SeparatorSuppressionPolicy}
 use Rattle.dfdl_terms.specs.declared.slots.Slot.{Slot}
 use Rattle.dfdl_terms.specs.declared.statement.Statements.{Statements}
@@ -20,10 +20,11 @@ use Rattle.dfdl_terms.specs.Rows.{Table}
 use Rattle.dfdl_paths.specs.declared.place.Start.{Start}
 use Rattle.dfdl_paths.specs.declared.place.Start.TheVariants.{At, Inside}
 use Rattle.dfdl_expressions.specs.declared.node.Node.{Node as ExpressionNode}
-use Rattle.dfdl_vars.specs.Kept.{Kept}
+use Rattle.dfdl_vars.specs.Kept.{Kept, entered}
 use Rattle.dfdl_region.specs.declared.node.Node.{Node}
 use Rattle.dfdl_region.specs.declared.node.Content.{Content}
 use Rattle.dfdl_region.specs.declared.node.Content.TheVariants.{Begun, Complex, Text, Octets}
+use Rattle.dfdl_region.specs.declared.node.Lengths.{Lengths}
 use Rattle.dfdl_region.specs.Nodes.{with_content}
 use Rattle.dfdl_looks.specs.Asks.{Reached, Told, TooFar, Missing, ask}
 use Rattle.dfdl_looks.specs.Looks.{seen_in}
@@ -32,24 +33,30 @@ use Rattle.dfdl_grammar.specs.declared.end.End.{End}
 use Rattle.dfdl_grammar.specs.declared.end.End.TheVariants.{Done, Failed, Stopped}
 use Rattle.dfdl_grammar.specs.declared.end.Halt.TheVariants.{Limit}
 use Rattle.dfdl_grammar.specs.declared.instead.Instead.{Instead}
-use Rattle.dfdl_grammar.specs.declared.instead.Instead.TheVariants.{Nothing, Nil, Empty}
+use Rattle.dfdl_grammar.specs.declared.instead.Instead.TheVariants.{Nothing, Nil, Empty, Tried}
 use Rattle.dfdl_grammar.specs.declared.mark.Mark.{Mark}
 use Rattle.dfdl_grammar.specs.States.{Input, State, anchor, anchor_at}
 use Rattle.dfdl_grammar.specs.Outcomes.{Outcome, ended, follow, spend, then_do}
 use Rattle.dfdl_grammar.specs.Marks.{closed, mark_at, marked}
-use Rattle.dfdl_grammar.specs.Leaves.{Find, Fails, Finds, FindsOctets, FindsText, content_begins, default_find, has_room, land, leaf, nil_values, program_for, read_by}
+use Rattle.dfdl_grammar.specs.Leaves.{Find, Fails, Finds, FindsOctets, FindsText, content_begins, default_find, has_room, land, leaf, nil_values, program_for, read_by, taken_as}
 use Rattle.dfdl_grammar.specs.Framing.{aligned, fill_to, has_byte, passed}
 use Rattle.dfdl_grammar.specs.Delimiters.{closes_to, lists_of, markup, opens, scoped, unscoped}
-use Rattle.dfdl_grammar.specs.Boxes.{boxed, boxed_at, bytes_up_to, pass_bytes, past_byte, rest as rest_of, unboxed}
+use Rattle.dfdl_grammar.specs.Boxes.{boxed, boxed_at, bytes_up_to, pass_bytes, past_byte, rest as rest_of, rest_from, unboxed}
+use Rattle.dfdl_grammar.specs.Spans.{span_ends, spanned, with_span}
+use Rattle.dfdl_grammar.specs.Marks.{with_known}
+use Rattle.dfdl_grammar.specs.declared.span.Span.{Span}
 use Rattle.dfdl_grammar.specs.Choices.{choice}
-use Rattle.dfdl_grammar.specs.Occurrences.{occurrences}
+use Rattle.dfdl_grammar.specs.Occurrences.{as_occurrence, instead_in, occurrences, occurring, untried}
 use Rattle.dfdl_grammar.specs.Slots.{Sequence, separated}
 use Rattle.dfdl_grammar.specs.Elements.{attempted, begun, close, element, has_elements, left}
 use Rattle.dfdl_grammar.specs.Statements.{concluded, told_at}
 use Rattle.dfdl_grammar.specs.Prefixes.{bits_of_units, leaf_of, prefixed, resized, size_of, sized_leaf}
 use Rattle.dfdl_grammar.specs.Questions.{asked_count, asked_key, question_at}
 use Rattle.dfdl_grammar.specs.Rows.{below, group, meaning, row, row_at}
+use Rattle.dfdl_grammar.specs.Instances.{closed_behind, instance_closed, instanced, opening_of, with_instance}
 use Rattle.dfdl_grammar.proofs.Asked.{count-comes, key-comes}
+use Rattle.dfdl_grammar.proofs.Entered.{entered_goes, through_goes}
+use Rattle.dfdl_grammar.proofs.Opened.{opened-comes}
 use Rattle.dfdl_grammar.proofs.Prefixed.{prefixed-comes}
 use Rattle.dfdl_grammar.proofs.Pointed.{choice-carried, occurrences-carried}
 use Rattle.dfdl_grammar.proofs.Represented.{AreMarked, GoesBack, again_at, any_ok, marked_by, refused, represented-comes}
@@ -59,7 +66,8 @@ use Rattle.dfdl_grammar.proofs.Stated.{Restates, Tells, concluded-comes, stateme
 use Rattle.dfdl_grammar.proofs.Ways.{GoesOn, IsBack, IsWay, back_goes, goes_same, goes_twice}
 use Rattle.dfdl_grammar.proofs.Slotted.{separated-carried}
 use Rattle.dfdl_grammar.proofs.Sought.{initiator-comes, separator-comes, terminator-comes}
-use Rattle.dfdl_grammar.proofs.Grown.{any_one, begun-longer, behind, content-length, content_twice, failed_returns, front_same, grown, grown_twice, is_nothing, kept_at, moved, moved_as, other_same, still, twice, unmarked_went, went_as, went_kept, Ends, Goes, Grown, Went}
+use Rattle.dfdl_grammar.proofs.Lengthened.{lengths-length}
+use Rattle.dfdl_grammar.proofs.Grown.{any_one, begun-longer, behind, content-length, content_twice, lengths_twice, failed_returns, front_same, grown, grown_twice, is_nothing, kept_at, moved, moved_as, other_same, still, twice, unmarked_went, went_as, went_kept, Ends, Goes, Grown, Went}
 
 module _ (input : Input) where
   put : (s : State) (at : ℕ) (bytes : List ℕ) (content : Content)
@@ -69,7 +77,7 @@ module _ (input : Input) where
       record {
         grown = record {
           longer = omega arith;
-          kept = λ other i few. ap (λ (ns : List Node). slice_get ns i) (content_twice s.nodes s.inside content other);
+          kept = λ other lengths i few. ap (λ (ns : List Node). slice_get ns i) (content_twice s.nodes s.inside content other lengths);
           more = bytes;
           text = refl;
           ways = goes_same s.variables;
@@ -83,7 +91,7 @@ module _ (input : Input) where
       record {
         grown = record {
           longer = omega arith;
-          kept = λ other i few. ap (λ (ns : List Node). slice_get ns i) (content_twice s.nodes s.inside content other);
+          kept = λ other lengths i few. ap (λ (ns : List Node). slice_get ns i) (content_twice s.nodes s.inside content other lengths);
           more = [];
           text = sym (append-nil s.text);
           ways = goes_same s.variables;
@@ -91,20 +99,38 @@ module _ (input : Input) where
         ends = record { marks = refl; inside = refl; instead = inl refl; lists = refl; hidden = refl };
       }
 
-  hold-goes : (made : ℕ → ℕ → Content) (bytes : List ℕ) (end : ℕ) (s : State) (room : Bool)
-      → (let o : Outcome = cond room (ended Done (record s {
-        at = end;
-        text = s.text ++ bytes;
-        nodes = with_content s.nodes s.inside (made (length s.text) (length bytes));
-      })) (ended (Stopped (Limit TextLimit) input.limits.text) s) in Went s.inside s o.end o.state)
-  hold-goes made bytes end s true = put s end bytes (made (length s.text) (length bytes))
-  hold-goes made bytes end s false = still s.inside (Stopped (Limit TextLimit) input.limits.text) s
+  -- the lengths of the open element
+  spans : (content value : ℕ) (s : State) → Went s.inside s Done (with_span content value s)
+  spans content value s =
+      let lengths : Option Lengths = Some (record { content = content; value = value }) in
+      let size = lengths-length s.nodes s.inside lengths in
+      record {
+        grown = record {
+          longer = omega arith;
+          kept = λ other last i few. ap (λ (ns : List Node). slice_get ns i) (lengths_twice s.nodes s.inside lengths last other);
+          more = [];
+          text = sym (append-nil s.text);
+          ways = goes_same s.variables;
+        };
+        ends = record { marks = refl; inside = refl; instead = inl refl; lists = refl; hidden = refl };
+      }
+
+  hold-goes : (made : ℕ → ℕ → Content) (bytes : List ℕ) (span : Span) (s : State) (room : Bool)
+      → (let o : Outcome = cond room (ended Done (record (taken_as (made (length s.text) (length bytes)) span s) { text = s.text ++ bytes }))
+      (ended (Stopped (Limit TextLimit) input.limits.text) s) in Went s.inside s o.end o.state)
+  hold-goes made bytes span s true =
+      let content : Content = made (length s.text) (length bytes) in
+      let t : State = record s { at = span.end; text = s.text ++ bytes; nodes = with_content s.nodes s.inside content } in
+      behind s t (with_span (span.end - s.at) span.value t) Done (put s span.end bytes content) (spans (span.end - s.at) span.value t)
+  hold-goes made bytes span s false = still s.inside (Stopped (Limit TextLimit) input.limits.text) s
 
   land-goes : (first : ℕ) (reached : Reached Find) → Goes (land input.limits first reached)
   land-goes first (Told (Fails cause)) s = still s.inside (land input.limits first (Told (Fails cause)) s).end s
-  land-goes first (Told (Finds content end)) s = put_alone s end content
-  land-goes first (Told (FindsOctets bytes end)) s = hold-goes Octets bytes end s (nat_le (length s.text + length bytes) input.limits.text)
-  land-goes first (Told (FindsText bytes end)) s = hold-goes Text bytes end s (nat_le (length s.text + length bytes) input.limits.text)
+  land-goes first (Told (Finds content span)) s =
+      let t : State = record s { at = span.end; nodes = with_content s.nodes s.inside content } in
+      behind s t (with_span (span.end - s.at) span.value t) Done (put_alone s span.end content) (spans (span.end - s.at) span.value t)
+  land-goes first (Told (FindsOctets bytes span)) s = hold-goes Octets bytes span s (nat_le (length s.text + length bytes) input.limits.text)
+  land-goes first (Told (FindsText bytes span)) s = hold-goes Text bytes span s (nat_le (length s.text + length bytes) input.limits.text)
   land-goes first TooFar s = still s.inside (land input.limits first TooFar s).end s
   land-goes first Missing s = still s.inside Done s
 
@@ -208,6 +234,18 @@ module _ (input : Input) where
   follow-goes s (Failed cause bit) o next same went goes = went
   follow-goes s (Stopped cause quantity) o next same went goes = went
 
+  -- the lengths of a content that is done, and then the rest of its box
+  rest-from-goes : (from : ℕ) → Goes (rest_from input from)
+  rest-from-goes from s =
+      let t : State = with_span (s.stop - from) (s.at - from) s in
+      behind s t (rest_of input t).state (rest_of input t).end (spans (s.stop - from) (s.at - from) s) (rest-goes t)
+
+  span-ends-goes : (from : ℕ) → Goes (span_ends from)
+  span-ends-goes from s = spans (s.at - from) (s.at - from) s
+
+  spanned-goes : (body : State → Outcome) → Goes body → Goes (spanned body)
+  spanned-goes body goes s = follow-goes s (body s).end (body s) (span_ends s.at) refl (goes s) (span-ends-goes s.at)
+
   -- the same elements and bytes of values, where all else is another
   grown_alike : (one : ℕ) (s t from to : State) → Grown one from to → s.nodes ≡ from.nodes → s.text ≡ from.text → t.nodes ≡ to.nodes → t.text ≡ to.text
       → s.variables ≡ from.variables → t.variables ≡ to.variables → Grown one s t
@@ -217,9 +255,9 @@ module _ (input : Input) where
       let longer = grown.longer in
       record {
         longer = omega arith;
-        kept = λ content at few.
-            let of : List Node → Option Node = λ ns. slice_get (with_content ns one content) at in
-            ap of new_nodes ∙ (grown.kept content at (omega arith) ∙ ap of (sym nodes));
+        kept = λ content lengths at few.
+            let of : List Node → Option Node = λ ns. slice_get (with_known ns one content lengths) at in
+            ap of new_nodes ∙ (grown.kept content lengths at (omega arith) ∙ ap of (sym nodes));
         more = grown.more;
         text = new_text ∙ (grown.text ∙ ap (λ (bytes : List ℕ). bytes ++ grown.more) (sym text));
         ways = λ base way. subst (λ (k : Kept). IsWay base k) (sym new_variables)
@@ -283,13 +321,13 @@ module _ (input : Input) where
 
   boxed-goes : (bits : ℕ) (body : State → Outcome) → Goes body → (s : State) (room : Bool)
       → (let out : Outcome = cond room
-      (let o : Outcome = then_do (body (boxed_at (s.at + bits) s)) (rest_of input) in unboxed o.end s.stop s.hidden o)
+      (let o : Outcome = then_do (body (boxed_at (s.at + bits) s)) (rest_from input s.at) in unboxed o.end s.stop s.hidden o)
       (ended (Failed LengthOutOfRange s.at) s) in Went s.inside s out.end out.state)
   boxed-goes bits body goes s true =
       let inside : State = boxed_at (s.at + bits) s in
       let inner : Outcome = body inside in
-      let o : Outcome = then_do inner (rest_of input) in
-      unboxed-goes s (s.at + bits) o.end o refl (follow-goes inside inner.end inner (rest_of input) refl (goes inside) rest-goes)
+      let o : Outcome = then_do inner (rest_from input s.at) in
+      unboxed-goes s (s.at + bits) o.end o refl (follow-goes inside inner.end inner (rest_from input s.at) refl (goes inside) (rest-from-goes s.at))
   boxed-goes bits body goes s false = still s.inside (Failed LengthOutOfRange s.at) s
 
   group-goes : (child : ℕ → State → Outcome) → ((id : ℕ) → Goes (child id)) → (children : List ℕ) → Goes (group child children)
@@ -300,17 +338,17 @@ module _ (input : Input) where
   -- what is in an element is behind all that had begun
   begun-goes : (id : ℕ) (instead : Instead) (s t : State) → Grown (length s.nodes) (begun id instead s) t → Grown (length s.nodes) s t
   begun-goes id instead s t grown =
-      let last : Node = record { element = id; parent = s.inside; content = Begun } in
+      let last : Node = record { element = id; parent = s.inside; content = Begun; lengths = None } in
       let size = begun-longer id instead s in
       let longer = grown.longer in
       record {
         longer = omega arith;
-        kept = λ content at few.
+        kept = λ content lengths at few.
             let apart : at ≡ length s.nodes → ⊥ = λ same. omega arith in
-            grown.kept content at (omega arith)
-            ∙ other_same (s.nodes ++ last ∷ []) (length s.nodes) at content apart
+            grown.kept content lengths at (omega arith)
+            ∙ other_same (s.nodes ++ last ∷ []) (length s.nodes) at content lengths apart
             ∙ front_same s.nodes last at few
-            ∙ sym (other_same s.nodes (length s.nodes) at content apart);
+            ∙ sym (other_same s.nodes (length s.nodes) at content lengths apart);
         more = grown.more;
         text = grown.text;
         ways = grown.ways;
@@ -321,9 +359,9 @@ module _ (input : Input) where
       let size = content-length t.nodes t.inside Complex in
       record {
         longer = omega arith;
-        kept = λ content at few.
-            ap (λ (i : ℕ). slice_get (with_content (with_content t.nodes i Complex) one content) at) same
-            ∙ ap (λ (ns : List Node). slice_get ns at) (content_twice t.nodes one Complex content);
+        kept = λ content lengths at few.
+            ap (λ (i : ℕ). slice_get (with_known (with_content t.nodes i Complex) one content lengths) at) same
+            ∙ ap (λ (ns : List Node). slice_get ns at) (content_twice t.nodes one Complex content lengths);
         more = [];
         text = sym (append-nil t.text);
         ways = goes_same t.variables;
@@ -479,13 +517,41 @@ module _ (input : Input) where
         ends = tt;
       })
       (λ instead t went. refused_went s t instead RequiredEmpty s.at went) (tried-stays id complex body goes s) (tried-returns id complex body goes s)
-      tried (any_ok Nil tried.nil) (any_ok Empty tried.empty)
+      tried (any_ok Nil tried.nil) (any_ok Empty tried.empty) (any_ok Empty tried.where_tried.empty)
 
   -- a choice, each of whose branches begins at the point
   choice-goes : (child : ℕ → State → Outcome) → ((id : ℕ) → Goes (child id)) → (initiated : Bool) (ids : List ℕ) → Goes (choice child initiated ids)
   choice-goes child goes initiated ids s =
       choice-carried (GoneBy s) (EndsBy s) (going s) child goes (λ id. going-carried s (child id) (goes id)) initiated ids s.marks s
       (still s.inside Done s)
+
+  -- an occurrence, which is tried or not
+  untried-goes : (s : State) (instead : Instead) (e : End) (o : Outcome) → e ≡ o.end → Went s.inside (record s { instead = instead }) o.end o.state
+      → Went s.inside s (untried e o).end (untried e o).state
+  untried-goes s instead Done o same went =
+      let inside : State = record s { instead = instead } in
+      let out : State = record o.state { instead = Nothing } in
+      let over : Ends Done inside o.state = subst (λ (e : End). Ends e inside o.state) (sym same) went.ends in
+      subst (λ (e : End). Went s.inside s e out) same (record {
+        grown = grown_alike s.inside s out inside o.state went.grown refl refl refl refl refl refl;
+        ends = record { marks = over.marks; inside = over.inside; instead = inr refl; lists = over.lists; hidden = over.hidden };
+      })
+  untried-goes s instead (Failed cause bit) o same went =
+      let inside : State = record s { instead = instead } in
+      let out : State = record o.state { instead = Nothing } in
+      let over : Ends (Failed cause bit) inside o.state = subst (λ (e : End). Ends e inside o.state) (sym same) went.ends in
+      subst (λ (e : End). Went s.inside s e out) same (record {
+        grown = grown_alike s.inside s out inside o.state went.grown refl refl refl refl refl refl;
+        ends = record { marks = over.marks; instead = inr refl; lists = over.lists; hidden = over.hidden };
+      })
+  untried-goes s instead (Stopped cause quantity) o same went =
+      let inside : State = record s { instead = instead } in
+      subst (λ (e : End). Went s.inside s e o.state) same
+      (record { grown = grown_alike s.inside s o.state inside o.state went.grown refl refl refl refl refl refl; ends = tt })
+
+  pub once-goes : (tried : Bool) (body : State → Outcome) → Goes body → Goes (occurring tried body)
+  once-goes tried body goes s =
+      let o : Outcome = body (as_occurrence tried s) in untried-goes s (instead_in tried s.instead) o.end o refl (goes (as_occurrence tried s))
 
   -- times that are tried
   occurrences-go : (body : State → Outcome) → Goes body → (initiated : Bool) (left : ℕ) → Goes (occurrences body initiated left)
@@ -496,7 +562,9 @@ module _ (input : Input) where
   separated-goes : (sequence : Sequence) → ((id : ℕ) → Goes (sequence.child id)) → (policy : SeparatorSuppressionPolicy) (slots : List Slot)
       → Goes (separated sequence policy slots)
   separated-goes sequence goes policy slots s =
-      separated-carried (GoneBy s) (EndsBy s) (going s) sequence goes (λ id. going-carried s (sequence.child id) (goes id)) policy slots s.marks s
+      let once : (id : ℕ) (tried : Bool) → Goes (occurring tried (sequence.child id)) = λ id tried. once-goes tried (sequence.child id) (goes id) in
+      separated-carried (GoneBy s) (EndsBy s) (going s) sequence once (λ id tried. going-carried s (occurring tried (sequence.child id)) (once id tried))
+      (λ id. going-carried s (sequence.child id) (goes id)) policy slots s.marks s
       (still s.inside Done s)
 
   -- statements
@@ -539,6 +607,68 @@ module _ (input : Input) where
       concluded-comes input.limits (λ (t : State). Went s.inside s Done t) (λ (e : End) (t : State). Went s.inside s e t) (going-tells s) table
       (λ (e : End) (t : State). Went s.inside s e t) (λ t there. there) start (told-goes start s) (again-goes s) behind o went
 
+  -- instances of variables
+  closed-grows : (number : ℕ) (start : Option Value) (s t : State) → Grown s.inside (record s { variables = entered s.variables number start }) t
+      → Grown s.inside s (instance_closed t)
+  closed-grows number start s t grown = record {
+    longer = grown.longer;
+    kept = grown.kept;
+    more = grown.more;
+    text = grown.text;
+    ways = through_goes s.variables t.variables number start grown.ways;
+  }
+
+  closed-goes : (number : ℕ) (start : Option Value) (s : State) (e : End) (o : Outcome) → e ≡ o.end
+      → Went s.inside (record s { variables = entered s.variables number start }) o.end o.state
+      → Went s.inside s (closed_behind e o).end (closed_behind e o).state
+  closed-goes number start s Done o same went =
+      let inside : State = record s { variables = entered s.variables number start } in
+      let out : State = instance_closed o.state in
+      let over : Ends Done inside o.state = subst (λ (e : End). Ends e inside o.state) (sym same) went.ends in
+      subst (λ (e : End). Went s.inside s e out) same (record {
+        grown = closed-grows number start s o.state went.grown;
+        ends = record { marks = over.marks; inside = over.inside; instead = over.instead; lists = over.lists; hidden = over.hidden };
+      })
+  closed-goes number start s (Failed cause bit) o same went =
+      let inside : State = record s { variables = entered s.variables number start } in
+      let out : State = instance_closed o.state in
+      let over : Ends (Failed cause bit) inside o.state = subst (λ (e : End). Ends e inside o.state) (sym same) went.ends in
+      subst (λ (e : End). Went s.inside s e out) same (record {
+        grown = closed-grows number start s o.state went.grown;
+        ends = record { marks = over.marks; instead = over.instead; lists = over.lists; hidden = over.hidden };
+      })
+  closed-goes number start s (Stopped cause quantity) o same went =
+      let kept : Kept = entered s.variables number start in
+      subst (λ (e : End). Went s.inside s e o.state) same (record {
+        grown = record {
+          longer = went.grown.longer;
+          kept = went.grown.kept;
+          more = went.grown.more;
+          text = went.grown.text;
+          ways = goes_twice s.variables kept o.state.variables (entered_goes s.variables number start) went.grown.ways;
+        };
+        ends = tt;
+      })
+
+  instance-goes : (body : State → Outcome) → Goes body → (number : ℕ) (start : Option Value) → Goes (with_instance number start body)
+  instance-goes body goes number start s =
+      let inside : State = record s { variables = entered s.variables number start } in
+      let o : Outcome = body inside in closed-goes number start s o.end o refl (goes inside)
+
+  instanced-goes : (table : Table) (number : ℕ) (body : State → Outcome) → Goes body → Goes (instanced table number body)
+  instanced-goes table number body goes s =
+      opened-comes (λ (e : End) (t : State). Went s.inside s e t) s
+      (λ cause kept ways.
+      let after : State = record s { variables = kept } in
+      read-goes s kept (Failed cause s.at) after ways (still s.inside (Failed cause s.at) after)) body
+      (λ kept ways.
+      let o : Outcome = body (record s { variables = kept }) in
+      read-goes s kept o.end o.state ways (goes (record s { variables = kept })))
+      (λ number start kept ways.
+      let after : State = record s { variables = kept } in
+      let o : Outcome = with_instance number start body after in
+      read-goes s kept o.end o.state ways (instance-goes body goes number start after)) table (opening_of (slice_get table.statements number))
+
   module _ (table : Table) where
     row-goes : (child : ℕ → State → Outcome) → ((id : ℕ) → Goes (child id)) → (id : ℕ) (r : Option Row) → Goes (row input table child id r)
     row-goes child goes id None s = still s.inside Done s
@@ -579,7 +709,8 @@ module _ (input : Input) where
     row-goes child goes id (Some (Counted question body)) s =
         asked-goes table (Inside s.inside) NegativeCount (λ count after. group child (replicate count body) after)
         (λ count. group-goes child goes (replicate count body)) (question_at table question) s
-    row-goes child goes id (Some (Optional most item initiated body)) s = occurrences-go (child body) (goes body) initiated most s
+    row-goes child goes id (Some (Optional most item initiated body)) s =
+        occurrences-go (occurring true (child body)) (once-goes true (child body) (goes body)) initiated most s
     row-goes child goes id (Some (ChoiceRow branches initiated)) s = choice-goes child goes initiated branches s
     row-goes child goes id (Some (Dispatch question keys)) s =
         key-goes table (Inside s.inside) child goes keys (question_at table question) s
@@ -588,9 +719,11 @@ module _ (input : Input) where
         (still s.inside Done s)
     row-goes child goes id (Some (Concluded behind body)) s = concluded-goes table (Inside s.inside) behind s (child body s) (goes body s)
     row-goes child goes id (Some (Hidden body)) s = goes body s
+    row-goes child goes id (Some (Spanned body)) s = spanned-goes (child body) (goes body) s
+    row-goes child goes id (Some (Instance statement body)) s = instanced-goes table statement (child body) (goes body) s
     row-goes child goes id (Some (Separated policy position initiated slots)) s =
         let sequence : Sequence =
-        record { input = input; delimiters = table.delimiters; child = child; position = position; initiated = initiated } in
+        record { input = input; table = table; child = child; position = position; initiated = initiated } in
         separated-goes sequence goes policy slots s
     row-goes child goes id (Some (PrefixedBox prefix body)) s =
         prefixed-goes table.delimiters (slice_get table.primitives prefix.prim) prefix.own (λ units after. boxed input (bits_of_units prefix.unit units) (child body) after)

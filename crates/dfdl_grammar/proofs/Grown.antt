@@ -1,14 +1,16 @@
--- What rows do is added to what was there, but for the content of the open element: states that follow others.
+-- What rows do is added to what was there, but for the content and the lengths of the open element: states that follow others.
 use Rattle.std.proofs.Common.{◌≡◌, ◌⊎◌, inl, inr, ℕ, zero, suc, ◌+◌, ◌<◌, ◌≤◌, refl, List, [], ◌∷◌, ◌++◌, length, take, Bool, Some, ap, sym, subst, ◌∙◌, arith, append-nil, append_assoc, length-append}
 use Rattle.std.proofs.Math.Seq.{take-append_seam}
-use Rattle.std.specs.Prelude.{slice_get}
+use Rattle.std.specs.Prelude.{slice_get, Option, None}
 use Rattle.dfdl_report.specs.declared.cause.ParseCause.{ParseCause}
 use Rattle.dfdl_vars.specs.Kept.{Kept}
 use Rattle.dfdl_vars.specs.Marks.{gone_back, mark_of}
 use Rattle.dfdl_region.specs.declared.node.Node.{Node}
 use Rattle.dfdl_region.specs.declared.node.Content.{Content}
 use Rattle.dfdl_region.specs.declared.node.Content.TheVariants.{Begun}
-use Rattle.dfdl_region.specs.Nodes.{with_content}
+use Rattle.dfdl_region.specs.declared.node.Lengths.{Lengths}
+use Rattle.dfdl_region.specs.Nodes.{with_content, with_lengths}
+use Rattle.dfdl_surroundings.specs.Answers.{lengths_of}
 use Rattle.dfdl_grammar.specs.declared.end.End.{End}
 use Rattle.dfdl_grammar.specs.declared.end.End.TheVariants.{Done, Failed, Stopped}
 use Rattle.dfdl_grammar.specs.declared.instead.Instead.{Instead}
@@ -16,8 +18,9 @@ use Rattle.dfdl_grammar.specs.declared.instead.Instead.TheVariants.{Nothing}
 use Rattle.dfdl_grammar.specs.declared.mark.Mark.{Mark}
 use Rattle.dfdl_grammar.specs.States.{State}
 use Rattle.dfdl_grammar.specs.Outcomes.{Outcome}
-use Rattle.dfdl_grammar.specs.Marks.{AreSame, back, back_among, closed, content_of}
+use Rattle.dfdl_grammar.specs.Marks.{AreSame, back, back_among, closed, content_of, with_known}
 use Rattle.dfdl_grammar.specs.Elements.{begun}
+use Rattle.dfdl_grammar.proofs.Lengthened.{lengths-length}
 use Rattle.dfdl_grammar.proofs.Represented.{marked_as}
 use Rattle.dfdl_grammar.proofs.Resolved.{back_same, outer_same}
 use Rattle.dfdl_grammar.proofs.Ways.{GoesOn, IsBack, gone_is, goes_same, goes_twice}
@@ -27,52 +30,63 @@ content-length [] number content = refl
 content-length (node ∷ rest) zero content = refl
 content-length (node ∷ rest) (suc number) content = ap suc (content-length rest number content)
 
--- another content of one element leaves the others as they are
-pub other_same : (nodes : List Node) (number at : ℕ) (content : Content) → (at ≡ number → ⊥) → slice_get (with_content nodes number content) at ≡ slice_get nodes at
-other_same [] number at content apart = refl
-other_same (first ∷ rest) zero zero content apart = absurd (apart refl)
-other_same (first ∷ rest) zero (suc at) content apart = refl
-other_same (first ∷ rest) (suc number) zero content apart = refl
-other_same (first ∷ rest) (suc number) (suc at) content apart = other_same rest number at content (λ same. apart (ap suc same))
+pub known-length : (nodes : List Node) (number : ℕ) (content : Content) (lengths : Option Lengths) → length (with_known nodes number content lengths) ≡ length nodes
+known-length nodes number content lengths = lengths-length (with_content nodes number content) number lengths ∙ content-length nodes number content
+
+-- another content of one element, and other lengths, leave the others as they are
+pub other_same : (nodes : List Node) (number at : ℕ) (content : Content) (lengths : Option Lengths) → (at ≡ number → ⊥)
+    → slice_get (with_known nodes number content lengths) at ≡ slice_get nodes at
+other_same [] number at content lengths apart = refl
+other_same (first ∷ rest) zero zero content lengths apart = absurd (apart refl)
+other_same (first ∷ rest) zero (suc at) content lengths apart = refl
+other_same (first ∷ rest) (suc number) zero content lengths apart = refl
+other_same (first ∷ rest) (suc number) (suc at) content lengths apart = other_same rest number at content lengths (λ same. apart (ap suc same))
 
 -- of two contents of one element the later stays
-pub content_twice : (nodes : List Node) (number : ℕ) (first last : Content)
-    → with_content (with_content nodes number first) number last ≡ with_content nodes number last
-content_twice [] number first last = refl
-content_twice (node ∷ rest) zero first last = refl
-content_twice (node ∷ rest) (suc number) first last = ap (λ (ns : List Node). node ∷ ns) (content_twice rest number first last)
+pub content_twice : (nodes : List Node) (number : ℕ) (first last : Content) (lengths : Option Lengths)
+    → with_known (with_content nodes number first) number last lengths ≡ with_known nodes number last lengths
+content_twice [] number first last lengths = refl
+content_twice (node ∷ rest) zero first last lengths = refl
+content_twice (node ∷ rest) (suc number) first last lengths = ap (λ (ns : List Node). node ∷ ns) (content_twice rest number first last lengths)
 
--- where an element is the same, it is with another content of one of them too
-pub content_same : (nodes others : List Node) (number at : ℕ) (content : Content) → slice_get nodes at ≡ slice_get others at
-    → slice_get (with_content nodes number content) at ≡ slice_get (with_content others number content) at
-content_same [] [] number at content same = refl
-content_same [] (other ∷ others) zero zero content same = absurd (cc)
-content_same [] (other ∷ others) zero (suc at) content same = same
-content_same [] (other ∷ others) (suc number) zero content same = absurd (cc)
-content_same [] (other ∷ others) (suc number) (suc at) content same = content_same [] others number at content same
-content_same (node ∷ nodes) [] zero zero content same = absurd (cc)
-content_same (node ∷ nodes) [] zero (suc at) content same = same
-content_same (node ∷ nodes) [] (suc number) zero content same = absurd (cc)
-content_same (node ∷ nodes) [] (suc number) (suc at) content same = content_same nodes [] number at content same
-content_same (node ∷ nodes) (other ∷ others) zero zero content same =
-    let one : node ≡ other = cc in ap (λ (n : Node). Some (record n { content = content })) one
-content_same (node ∷ nodes) (other ∷ others) zero (suc at) content same = same
-content_same (node ∷ nodes) (other ∷ others) (suc number) zero content same = same
-content_same (node ∷ nodes) (other ∷ others) (suc number) (suc at) content same = content_same nodes others number at content same
+-- and so do the later lengths
+pub lengths_twice : (nodes : List Node) (number : ℕ) (first last : Option Lengths) (content : Content)
+    → with_known (with_lengths nodes number first) number content last ≡ with_known nodes number content last
+lengths_twice [] number first last content = refl
+lengths_twice (node ∷ rest) zero first last content = refl
+lengths_twice (node ∷ rest) (suc number) first last content = ap (λ (ns : List Node). node ∷ ns) (lengths_twice rest number first last content)
 
--- what an element has, as another content of it
-own_content : (nodes : List Node) (number : ℕ) → with_content nodes number (content_of (slice_get nodes number)) ≡ nodes
-own_content [] number = refl
-own_content (node ∷ rest) zero = refl
-own_content (node ∷ rest) (suc number) = ap (λ (ns : List Node). node ∷ ns) (own_content rest number)
+-- where an element is the same, it is with another content and other lengths of one of them too
+pub content_same : (nodes others : List Node) (number at : ℕ) (content : Content) (lengths : Option Lengths) → slice_get nodes at ≡ slice_get others at
+    → slice_get (with_known nodes number content lengths) at ≡ slice_get (with_known others number content lengths) at
+content_same [] [] number at content lengths same = refl
+content_same [] (other ∷ others) zero zero content lengths same = absurd (cc)
+content_same [] (other ∷ others) zero (suc at) content lengths same = same
+content_same [] (other ∷ others) (suc number) zero content lengths same = absurd (cc)
+content_same [] (other ∷ others) (suc number) (suc at) content lengths same = content_same [] others number at content lengths same
+content_same (node ∷ nodes) [] zero zero content lengths same = absurd (cc)
+content_same (node ∷ nodes) [] zero (suc at) content lengths same = same
+content_same (node ∷ nodes) [] (suc number) zero content lengths same = absurd (cc)
+content_same (node ∷ nodes) [] (suc number) (suc at) content lengths same = content_same nodes [] number at content lengths same
+content_same (node ∷ nodes) (other ∷ others) zero zero content lengths same =
+    let one : node ≡ other = cc in ap (λ (n : Node). Some (record n { content = content; lengths = lengths })) one
+content_same (node ∷ nodes) (other ∷ others) zero (suc at) content lengths same = same
+content_same (node ∷ nodes) (other ∷ others) (suc number) zero content lengths same = same
+content_same (node ∷ nodes) (other ∷ others) (suc number) (suc at) content lengths same = content_same nodes others number at content lengths same
 
--- the first elements of those with another content
-take_content : (count : ℕ) (nodes : List Node) (number : ℕ) (content : Content)
-    → take count (with_content nodes number content) ≡ with_content (take count nodes) number content
-take_content zero nodes number content = refl
-take_content (suc count) [] number content = refl
-take_content (suc count) (node ∷ rest) zero content = refl
-take_content (suc count) (node ∷ rest) (suc number) content = ap (λ (ns : List Node). node ∷ ns) (take_content count rest number content)
+-- what an element has, and how long it is, as another content and other lengths of it
+own_known : (nodes : List Node) (number : ℕ) → with_known nodes number (content_of (slice_get nodes number)) (lengths_of (slice_get nodes number)) ≡ nodes
+own_known [] number = refl
+own_known (node ∷ rest) zero = refl
+own_known (node ∷ rest) (suc number) = ap (λ (ns : List Node). node ∷ ns) (own_known rest number)
+
+-- the first elements of those with another content and other lengths
+take_known : (count : ℕ) (nodes : List Node) (number : ℕ) (content : Content) (lengths : Option Lengths)
+    → take count (with_known nodes number content lengths) ≡ with_known (take count nodes) number content lengths
+take_known zero nodes number content lengths = refl
+take_known (suc count) [] number content lengths = refl
+take_known (suc count) (node ∷ rest) zero content lengths = refl
+take_known (suc count) (node ∷ rest) (suc number) content lengths = ap (λ (ns : List Node). node ∷ ns) (take_known count rest number content lengths)
 
 -- and so does one more behind them
 pub front_same : (nodes : List Node) (last : Node) (at : ℕ) → at < length nodes → slice_get (nodes ++ last ∷ []) at ≡ slice_get nodes at
@@ -90,14 +104,14 @@ begins_with (node ∷ rest) (other ∷ others) same =
     ap (λ (n : Node). n ∷ take (length rest) others) one ∙ ap (λ (ns : List Node). node ∷ ns) (begins_with rest others (λ at few. same (suc at) (omega arith)))
 
 pub begun-longer : (id : ℕ) (instead : Instead) (s : State) → length (begun id instead s).nodes ≡ length s.nodes + 1
-begun-longer id instead s = length-append s.nodes (record { element = id; parent = s.inside; content = Begun } ∷ [])
+begun-longer id instead s = length-append s.nodes (record { element = id; parent = s.inside; content = Begun; lengths = None } ∷ [])
 
--- a state that follows another, of whose elements at most one has another content: with any one content of that they are the same; each
--- way back to what was kept of the variables goes on
+-- a state that follows another, of whose elements at most one has another content or other lengths: with any content and lengths of that
+-- they are the same; each way back to what was kept of the variables goes on
 pub record Grown (one : ℕ) (s t : State) : Type 0 where
   pub longer : length s.nodes ≤ length t.nodes
-  pub kept : (content : Content) (at : ℕ) → at < length s.nodes
-      → slice_get (with_content t.nodes one content) at ≡ slice_get (with_content s.nodes one content) at
+  pub kept : (content : Content) (lengths : Option Lengths) (at : ℕ) → at < length s.nodes
+      → slice_get (with_known t.nodes one content lengths) at ≡ slice_get (with_known s.nodes one content lengths) at
   pub more : List ℕ
   pub text : t.text ≡ s.text ++ more
   pub ways : GoesOn s.variables t.variables
@@ -142,7 +156,7 @@ abbrev pub Goes : (State → Outcome) → Type 0
 Goes f = (s : State) → Went s.inside s (f s).end (f s).state
 
 pub grown : (one : ℕ) (s : State) → Grown one s s
-grown one s = record { longer = omega arith; kept = λ content at few. refl; more = []; text = sym (append-nil s.text); ways = goes_same s.variables }
+grown one s = record { longer = omega arith; kept = λ content lengths at few. refl; more = []; text = sym (append-nil s.text); ways = goes_same s.variables }
 
 pub ends_here : (e : End) (s : State) → Ends e s s
 ends_here Done s = record { marks = refl; inside = refl; instead = inl refl; lists = refl; hidden = refl }
@@ -175,7 +189,7 @@ grown_twice one s t u first second =
     let b = second.longer in
     record {
       longer = omega arith;
-      kept = λ content at few. second.kept content at (omega arith) ∙ first.kept content at few;
+      kept = λ content lengths at few. second.kept content lengths at (omega arith) ∙ first.kept content lengths at few;
       more = first.more ++ second.more;
       text = second.text ∙ ap (λ (bytes : List ℕ). bytes ++ second.more) first.text ∙ append_assoc s.text first.more second.more;
       ways = goes_twice s.variables t.variables u.variables first.ways second.ways;
@@ -216,10 +230,12 @@ pub any_one : (one : ℕ) (s t : State) (e : End) → Went (length s.nodes) s e 
 any_one one s t e went = record {
   grown = record {
     longer = went.grown.longer;
-    kept = λ content at few.
+    kept = λ content lengths at few.
         let apart : at ≡ length s.nodes → ⊥ = λ same. omega arith in
-        content_same t.nodes s.nodes one at content
-        (sym (other_same t.nodes (length s.nodes) at content apart) ∙ went.grown.kept content at few ∙ other_same s.nodes (length s.nodes) at content apart);
+        content_same t.nodes s.nodes one at content lengths
+        (sym (other_same t.nodes (length s.nodes) at content lengths apart)
+        ∙ went.grown.kept content lengths at few
+        ∙ other_same s.nodes (length s.nodes) at content lengths apart);
     more = went.grown.more;
     text = went.grown.text;
     ways = went.grown.ways;
@@ -283,19 +299,20 @@ abbrev pub kept_at : State → State → Kept
 kept_at s t = gone_back (mark_of s.variables) t.variables
 
 -- What is gone back to is the state at the mark, where the marks and the lists are those from then: no element before the mark has
--- changed but for what the open one has.
+-- changed but for what the open one has, and how long that is.
 pub restored : (is_point initiated : Bool) (s t : State) (before : Instead) → Grown s.inside (marked_as is_point initiated s before) t
     → AreSame t.marks (marked_as is_point initiated s before).marks → t.lists ≡ s.lists → t.hidden ≡ s.hidden
     → back t ≡ record s { instead = t.instead; marks = t.marks; variables = kept_at s t }
 restored is_point initiated s t before grown marks lists hidden =
     let content : Content = content_of (slice_get s.nodes s.inside) in
-    let size : length (with_content s.nodes s.inside content) ≡ length s.nodes = content-length s.nodes s.inside content in
-    let whole : List Node = with_content t.nodes s.inside content in
-    let nodes : with_content (take (length s.nodes) t.nodes) s.inside content ≡ s.nodes =
-    sym (take_content (length s.nodes) t.nodes s.inside content)
+    let lengths : Option Lengths = lengths_of (slice_get s.nodes s.inside) in
+    let size : length (with_known s.nodes s.inside content lengths) ≡ length s.nodes = known-length s.nodes s.inside content lengths in
+    let whole : List Node = with_known t.nodes s.inside content lengths in
+    let nodes : with_known (take (length s.nodes) t.nodes) s.inside content lengths ≡ s.nodes =
+    sym (take_known (length s.nodes) t.nodes s.inside content lengths)
     ∙ ap (λ (count : ℕ). take count whole) (sym size)
-    ∙ begins_with (with_content s.nodes s.inside content) whole (λ at few. grown.kept content at (omega arith))
-    ∙ own_content s.nodes s.inside in
+    ∙ begins_with (with_known s.nodes s.inside content lengths) whole (λ at few. grown.kept content lengths at (omega arith))
+    ∙ own_known s.nodes s.inside in
     let text : take (length s.text) t.text ≡ s.text =
     ap (λ (bytes : List ℕ). take (length s.text) bytes) grown.text ∙ take-append_seam s.text grown.more in
     let there : List Node → List ℕ → List ℕ → ℕ → State =

@@ -27,7 +27,7 @@ use Rattle.dfdl_terms.specs.declared.representations.Representations.{Representa
 use Rattle.dfdl_terms.specs.declared.row.Primitive.{Primitive}
 use Rattle.dfdl_terms.specs.declared.row.Primitive.TheVariants.{Integer, Packed, Truth, Octets, Text as Characters, NilOctets, Default, NilValues, Pattern}
 use Rattle.dfdl_terms.specs.declared.row.Row.{Row}
-use Rattle.dfdl_terms.specs.declared.row.Row.TheVariants.{Leaf, Elem, Group, Skip, Align, Initiator, Terminator, Separator, Scope, Boxed, PrefixedLeaf, PrefixedBox, MeasuredLeaf, MeasuredBox, Repeat, Counted, Optional, Choice as ChoiceRow, Dispatch, Statement, Concluded, Hidden, Separated}
+use Rattle.dfdl_terms.specs.declared.row.Row.TheVariants.{Leaf, Elem, Group, Skip, Align, Initiator, Terminator, Separator, Scope, Boxed, PrefixedLeaf, PrefixedBox, MeasuredLeaf, MeasuredBox, Repeat, Counted, Optional, Choice as ChoiceRow, Dispatch, Statement, Concluded, Hidden, Spanned, Instance, Separated}
 use Rattle.dfdl_terms.specs.declared.text.NilForm.{NilForm}
 use Rattle.dfdl_terms.specs.declared.text.OctetForm.{OctetForm}
 use Rattle.dfdl_terms.specs.declared.text.PatternForm.{PatternForm}
@@ -72,17 +72,19 @@ use Rattle.dfdl_grammar.specs.declared.end.End.TheVariants.{Done, Failed, Stoppe
 use Rattle.dfdl_grammar.specs.declared.end.Halt.TheVariants.{Limit}
 use Rattle.dfdl_grammar.specs.declared.instead.Instead.{Instead}
 use Rattle.dfdl_grammar.specs.declared.mark.Mark.{Mark}
-use Rattle.dfdl_grammar.specs.declared.instead.Instead.TheVariants.{Nothing, Nil as InsteadNil, Empty}
+use Rattle.dfdl_grammar.specs.declared.instead.Instead.TheVariants.{Nothing, Nil as InsteadNil, Empty, Tried}
 use Rattle.dfdl_grammar.specs.States.{Input, State, anchor, anchor_at}
 use Rattle.dfdl_grammar.specs.Documents.{front_at}
 use Rattle.dfdl_grammar.specs.Outcomes.{Outcome, ended, follow, spend, then_do}
-use Rattle.dfdl_grammar.specs.Leaves.{Find, Fails, Finds, FindsOctets, FindsText, bits_of, bytes_spanned, content_begins, content_find, default_by_step, default_find, default_of_size, delimited_find, field, find_in, find_of, has_room, is_no_size, land, leaf, nil_find, nil_octets_find, nil_value_find, nil_values, is_bytes, is_text, is_value, number_find, pattern_find, octets, octets_find, packed_find, program, program_for, read_by, text_begins, text_behind, text_find, text_of_size, text_sought, truth_find, unless_broken}
+use Rattle.dfdl_grammar.specs.Leaves.{Find, Fails, Finds, FindsOctets, FindsText, bits_of, bytes_spanned, content_begins, content_find, default_by_step, default_find, default_of_size, delimited_find, field, find_in, find_of, has_room, is_no_size, land, leaf, nil_find, nil_octets_find, nil_value_find, nil_values, is_bytes, is_text, is_value, kept_find, number_find, pattern_find, octets, octets_find, packed_find, program, program_for, read_by, taken_as, text_begins, text_behind, text_find, text_of_size, text_sought, truth_find, unless_broken}
 use Rattle.dfdl_grammar.specs.Delimited.{first_step, plain, scanned}
 use Rattle.dfdl_grammar.specs.Framing.{aligned, fill_to, has_byte, passed}
 use Rattle.dfdl_grammar.specs.Delimiters.{lists_of, markup, opens, scoped, unscoped}
-use Rattle.dfdl_grammar.specs.Boxes.{boxed, boxed_at, bytes_up_to, pass_bytes, past_byte, rest as rest_of, unboxed}
+use Rattle.dfdl_grammar.specs.Boxes.{boxed, boxed_at, bytes_up_to, pass_bytes, past_byte, rest as rest_of, rest_from, unboxed}
+use Rattle.dfdl_grammar.specs.Spans.{filled, kept_to, span_ends, spanned, vacant, with_span}
+use Rattle.dfdl_grammar.specs.declared.span.Span.{Span}
 use Rattle.dfdl_grammar.specs.Choices.{choice}
-use Rattle.dfdl_grammar.specs.Occurrences.{occurrences}
+use Rattle.dfdl_grammar.specs.Occurrences.{as_occurrence, occurrences, occurring, untried}
 use Rattle.dfdl_grammar.specs.Slots.{Sequence, separated}
 use Rattle.dfdl_grammar.specs.Elements.{attempted, begun, close, element, has_elements, left}
 use Rattle.dfdl_grammar.specs.Nils.{are_nil, is_nil}
@@ -92,10 +94,13 @@ use Rattle.dfdl_grammar.specs.Prefixes.{bits_of_units, leaf_of, prefixed, resize
 use Rattle.dfdl_grammar.specs.Questions.{asked_count, asked_key, question_at}
 use Rattle.dfdl_grammar.specs.Rows.{below, group, meaning, row, row_at}
 use Rattle.dfdl_grammar.proofs.Found.{made, told_one}
-use Rattle.dfdl_grammar.proofs.Going.{below-goes, tried-returns, tried-stays}
+use Rattle.dfdl_grammar.proofs.Going.{below-goes, tried-returns, tried-stays, once-goes}
 use Rattle.dfdl_grammar.proofs.Grown.{Goes}
-use Rattle.dfdl_grammar.proofs.Holding.{both_have, content-has, first_has, last-bytes, rest_has, text-more, trimmed-scalars, utf8}
+use Rattle.dfdl_grammar.proofs.Holding.{both_have, content-has, first_has, lengths-has, last-bytes, rest_has, text-more, trimmed-scalars, utf8}
+use Rattle.dfdl_vars.specs.Kept.{entered}
+use Rattle.dfdl_grammar.specs.Instances.{closed_behind, instanced, opening_of}
 use Rattle.dfdl_grammar.proofs.Asked.{count-comes, key-comes}
+use Rattle.dfdl_grammar.proofs.Opened.{opened-comes}
 use Rattle.dfdl_grammar.proofs.Prefixed.{prefixed-comes}
 use Rattle.dfdl_grammar.proofs.Carried.{Carries}
 use Rattle.dfdl_grammar.proofs.Pointed.{choice-carried, occurrences-carried}
@@ -108,53 +113,56 @@ use Rattle.dfdl_grammar.proofs.Sought.{initiator-comes, separator-comes, termina
 -- what a leaf finds has bytes that can be held as a string's, if it is one
 abbrev IsHeld : Find → Type 0
 IsHeld (Fails cause) = Unit {0}
-IsHeld (Finds content end) = (bytes : List ℕ) → HasText bytes content
-IsHeld (FindsOctets bytes end) = Unit {0}
-IsHeld (FindsText bytes end) = IsUtf8 bytes
+IsHeld (Finds content span) = (bytes : List ℕ) → HasText bytes content
+IsHeld (FindsOctets bytes span) = Unit {0}
+IsHeld (FindsText bytes span) = IsUtf8 bytes
 
-number-held : (end : ℕ) (v : Option Value) → IsHeld (find_of end v)
-number-held end None = tt
-number-held end (Some (Int z)) = λ bytes. tt
-number-held end (Some (Uns n)) = λ bytes. tt
-number-held end (Some (Dec d)) = λ bytes. tt
-number-held end (Some (TextValue text)) = tt
-number-held end (Some (TruthValue truth)) = tt
-number-held end (Some (Bytes octets)) = tt
+number-held : (span : Span) (v : Option Value) → IsHeld (find_of span v)
+number-held span None = tt
+number-held span (Some (Int z)) = λ bytes. tt
+number-held span (Some (Uns n)) = λ bytes. tt
+number-held span (Some (Dec d)) = λ bytes. tt
+number-held span (Some (TextValue text)) = tt
+number-held span (Some (TruthValue truth)) = tt
+number-held span (Some (Bytes octets)) = tt
 
-packed-held : (end : ℕ) (r : Result Value PackedFault) → IsHeld (packed_find end r)
-packed-held end (Ok v) = number-held end (Some v)
-packed-held end (Err BadNibble) = tt
-packed-held end (Err PastType) = tt
+packed-held : (span : Span) (r : Result Value PackedFault) → IsHeld (packed_find span r)
+packed-held span (Ok v) = number-held span (Some v)
+packed-held span (Err BadNibble) = tt
+packed-held span (Err PastType) = tt
 
-truth-held : (end : ℕ) (r : Option Bool) → IsHeld (truth_find end r)
-truth-held end (Some truth) = λ bytes. tt
-truth-held end None = tt
+truth-held : (span : Span) (r : Option Bool) → IsHeld (truth_find span r)
+truth-held span (Some truth) = λ bytes. tt
+truth-held span None = tt
 
-text-number-held : (end : ℕ) (r : Result Value NumberFault) → IsHeld (number_find end r)
-text-number-held end (Ok v) = number-held end (Some v)
-text-number-held end (Err fault.NotANumber) = tt
-text-number-held end (Err fault.PastType) = tt
+text-number-held : (span : Span) (r : Result Value NumberFault) → IsHeld (number_find span r)
+text-number-held span (Ok v) = number-held span (Some v)
+text-number-held span (Err fault.NotANumber) = tt
+text-number-held span (Err fault.PastType) = tt
 
-nil-held : (end : ℕ) (nil : Bool) → IsHeld (nil_find end nil)
-nil-held end true = λ bytes. tt
-nil-held end false = tt
+nil-held : (span : Span) (nil : Bool) → IsHeld (nil_find span nil)
+nil-held span true = λ bytes. tt
+nil-held span false = tt
 
-octets-told : (end : ℕ) (r : Option (List ℕ)) → IsHeld (octets_find end r)
-octets-told end (Some bytes) = tt
-octets-told end None = tt
+octets-told : (span : Span) (r : Option (List ℕ)) → IsHeld (octets_find span r)
+octets-told span (Some bytes) = tt
+octets-told span None = tt
 
-content-held : (read : TextContent) (chars : List ℕ) (end : ℕ) → IsUtf8 (utf8_of chars) → IsHeld (content_find read chars end)
-content-held Plain chars end kept = kept
-content-held TextOctets chars end kept = octets-told end (encoded_text Iso88591 chars)
-content-held (Number form kind) chars end kept = text-number-held end (number_reading form kind chars)
-content-held (Zoned form) chars end kept = packed-held end (zoned_reading form chars)
-content-held (TextTruth form) chars end kept = truth-held end (truth_of form chars)
-content-held (Nil form) chars end kept = nil-held end (is_nil form chars)
+content-held : (read : TextContent) (chars : List ℕ) (span : Span) → IsUtf8 (utf8_of chars) → IsHeld (content_find read chars span)
+content-held Plain chars span kept = kept
+content-held TextOctets chars span kept = octets-told span (encoded_text Iso88591 chars)
+content-held (Number form kind) chars span kept = text-number-held span (number_reading form kind chars)
+content-held (Zoned form) chars span kept = packed-held span (zoned_reading form chars)
+content-held (TextTruth form) chars span kept = truth-held span (truth_of form chars)
+content-held (Nil form) chars span kept = nil-held span (is_nil form chars)
+
+kept-held : (form : TextForm) (end : ℕ) (chars : List ℕ) → IsUtf8 (utf8_of chars) → IsHeld (kept_find form end chars)
+kept-held form end chars kept = content-held form.content chars (kept_to end form.encoding chars) kept
 
 found-held : (primitive : Primitive) (bit : ℕ) (bytes : List ℕ) → IsHeld (find_in primitive bit bytes)
-found-held (Integer form) bit bytes = number-held (bit + form.bits) (integer_reading form (field_of form bytes (bit % 8)))
-found-held (Packed form) bit bytes = packed-held (bit + 4 * form.nibbles) (packed_reading form (nibbles_in form bytes (bit % 8)))
-found-held (Truth form) bit bytes = truth-held (bit + form.bits) (truth_reading form (truth_field_of form bytes (bit % 8)))
+found-held (Integer form) bit bytes = number-held (filled bit form.bits) (integer_reading form (field_of form bytes (bit % 8)))
+found-held (Packed form) bit bytes = packed-held (filled bit (4 * form.nibbles)) (packed_reading form (nibbles_in form bytes (bit % 8)))
+found-held (Truth form) bit bytes = truth-held (filled bit form.bits) (truth_reading form (truth_field_of form bytes (bit % 8)))
 found-held (Octets form) bit bytes = tt
 found-held (Characters form) bit bytes = IsUtf8-nil
 found-held (NilOctets form) bit bytes = tt
@@ -199,23 +207,23 @@ unbroken-held (steps.Fails cause) find held = tt
 delimited-held : (form : TextForm) (found : DelimitedContent) → AreScalars found.characters → IsHeld (delimited_find form found)
 delimited-held form found scalars =
     let chars : List ℕ = plain (trimmed_content form.pad found.characters) in
-    unbroken-held found.ends (content_find form.content chars (8 * found.last.byte))
-    (content-held form.content chars (8 * found.last.byte)
+    unbroken-held found.ends (kept_find form (8 * found.last.byte) chars)
+    (kept-held form (8 * found.last.byte) chars
     (utf8 chars (plain-scalars (trimmed_content form.pad found.characters) (trimmed-content-scalars form.pad found.characters scalars))))
 
 -- bytes that have to be nil
 nil-octets-held : (form : NilForm) (find : Find) → IsHeld (nil_octets_find form find)
 nil-octets-held form (Fails cause) = tt
-nil-octets-held form (Finds content end) = tt
-nil-octets-held form (FindsOctets bytes end) = nil-held end (are_nil form bytes)
-nil-octets-held form (FindsText bytes end) = tt
+nil-octets-held form (Finds content span) = tt
+nil-octets-held form (FindsOctets bytes span) = nil-held span (are_nil form bytes)
+nil-octets-held form (FindsText bytes span) = tt
 
 -- a value that has to be one of some
 nil-value-held : (values : List Value) (find : Find) → IsHeld (nil_value_find values find)
 nil-value-held values (Fails cause) = tt
-nil-value-held values (Finds content end) = nil-held end (list_any (is_value content) values)
-nil-value-held values (FindsOctets bytes end) = nil-held end (list_any (is_bytes bytes) values)
-nil-value-held values (FindsText bytes end) = nil-held end (list_any (is_text bytes) values)
+nil-value-held values (Finds content span) = nil-held span (list_any (is_value content) values)
+nil-value-held values (FindsOctets bytes span) = nil-held span (list_any (is_bytes bytes) values)
+nil-value-held values (FindsText bytes span) = nil-held span (list_any (is_text bytes) values)
 
 -- the number of bytes that a pattern matches
 pattern-held : (form : PatternForm) (first : ℕ) (text : TextRead) → IsHeld (pattern_find form first text)
@@ -294,9 +302,9 @@ resized-sound (Delimited scan) (Pattern form) is = tt
 -- whether a find is that the data end
 ends-or : (found : Find) → IsHeld found ⊎ (Fails DataEnds ≡ found → ⊥)
 ends-or (Fails cause) = inl tt
-ends-or (Finds content end) = inr (λ same. absurd (cc))
-ends-or (FindsOctets bytes end) = inl tt
-ends-or (FindsText bytes end) = inr (λ same. absurd (cc))
+ends-or (Finds content span) = inr (λ same. absurd (cc))
+ends-or (FindsOctets bytes span) = inl tt
+ends-or (FindsText bytes span) = inr (λ same. absurd (cc))
 
 field-held : (look : ℕ → Seen) (primitive : Primitive) (bit : ℕ) (found : Find) → (ask look (field primitive bit) nothing).reached ≡ Told found → IsHeld found
 field-held look primitive bit found is = elim (ends-or found) [
@@ -323,7 +331,7 @@ module _ (input : Input) (small : All (λ b. b < 256) input.bytes) where
       → (go_on look (λ (text : TextRead). Answer (text_find form bit text)) r t).reached ≡ Told found → IsHeld found
   text-held form bit look (Told (DoesRead chars end)) t found kept is =
       subst IsHeld (told_one (text_find form bit (DoesRead chars end)) found is)
-      (content-held form.content (trimmed form.pad chars) (text_behind form.size bit end) (kept chars end refl))
+      (kept-held form (text_behind form.size bit end) (trimmed form.pad chars) (kept chars end refl))
   text-held form bit look (Told HasBad) t found kept is = subst IsHeld (told_one (text_find form bit HasBad) found is) tt
   text-held form bit look (Told IsCut) t found kept is = subst IsHeld (told_one (text_find form bit IsCut) found is) tt
   text-held form bit look (Told IsBoxed) t found kept is = subst IsHeld (told_one (text_find form bit IsBoxed) found is) tt
@@ -381,9 +389,9 @@ module _ (input : Input) (small : All (λ b. b < 256) input.bytes) where
       then-held window low form bit (extent.Characters n) stop (aligned 8 bit / 8) found is
 
   octets-held : (size low : ℕ) (form : OctetForm) (bit : ℕ) (found : Find) (none whole : Bool)
-      → (ask (seen_in input.bytes size low) (cond none (Answer (FindsOctets [] bit)) (cond whole (field (Octets form) bit) (Answer (Fails NotFilled)))) nothing).reached
+      → (ask (seen_in input.bytes size low) (cond none (Answer (FindsOctets [] (vacant bit))) (cond whole (field (Octets form) bit) (Answer (Fails NotFilled)))) nothing).reached
       ≡ Told found → IsHeld found
-  octets-held size low form bit found true whole is = let same : FindsOctets [] bit ≡ found = cc in subst IsHeld same tt
+  octets-held size low form bit found true whole is = let same : FindsOctets [] (vacant bit) ≡ found = cc in subst IsHeld same tt
   octets-held size low form bit found false true is = field-held (seen_in input.bytes size low) (Octets form) bit found is
   octets-held size low form bit found false false is = let same : Fails NotFilled ≡ found = cc in subst IsHeld same tt
 
@@ -472,29 +480,35 @@ module _ (input : Input) (small : All (λ b. b < 256) input.bytes) where
   abbrev Keeps : (State → Outcome) → Type 0
   Keeps f = (s : State) → Has s → Has (f s).state
 
-  hold-keeps : (made_of : ℕ → ℕ → Content) (bytes : List ℕ) (end : ℕ) (s : State) → Has s
+  -- lengths of the open element leave them as they are
+  spans : (content value : ℕ) (s : State) → Has s → Has (with_span content value s)
+  spans content value s has = lengths-has (HasText s.text) s.nodes s.inside (Some (record { content = content; value = value })) has
+
+  hold-keeps : (made_of : ℕ → ℕ → Content) (bytes : List ℕ) (span : Span) (s : State) → Has s
       → HasText (s.text ++ bytes) (made_of (length s.text) (length bytes)) → (room : Bool)
-      → Has (cond room (ended Done (record s {
-        at = end;
-        text = s.text ++ bytes;
-        nodes = with_content s.nodes s.inside (made_of (length s.text) (length bytes));
-      })) (ended (Stopped (Limit TextLimit) input.limits.text) s)).state
-  hold-keeps made_of bytes end s has new true =
-      content-has (HasText (s.text ++ bytes)) s.nodes s.inside (made_of (length s.text) (length bytes)) new
-      (λ i node less. text-more s.text bytes (get_or s.nodes i node).content (has i node less))
-  hold-keeps made_of bytes end s has new false = has
+      → Has (cond room (ended Done (record (taken_as (made_of (length s.text) (length bytes)) span s) { text = s.text ++ bytes }))
+      (ended (Stopped (Limit TextLimit) input.limits.text) s)).state
+  hold-keeps made_of bytes span s has new true =
+      let content : Content = made_of (length s.text) (length bytes) in
+      let t : State = record s { at = span.end; text = s.text ++ bytes; nodes = with_content s.nodes s.inside content } in
+      spans (span.end - s.at) span.value t
+      (content-has (HasText (s.text ++ bytes)) s.nodes s.inside content new
+      (λ i node less. text-more s.text bytes (get_or s.nodes i node).content (has i node less)))
+  hold-keeps made_of bytes span s has new false = has
 
   land-keeps : (first : ℕ) (reached : Reached Find) → ((found : Find) → reached ≡ Told found → IsHeld found) → Keeps (land input.limits first reached)
   land-keeps first (Told (Fails cause)) held s has = has
-  land-keeps first (Told (Finds content end)) held s has =
-      content-has (HasText s.text) s.nodes s.inside content (held (Finds content end) refl s.text) has
-  land-keeps first (Told (FindsOctets bytes end)) held s has =
+  land-keeps first (Told (Finds content span)) held s has =
+      let t : State = record s { at = span.end; nodes = with_content s.nodes s.inside content } in
+      spans (span.end - s.at) span.value t
+      (content-has (HasText s.text) s.nodes s.inside content (held (Finds content span) refl s.text) has)
+  land-keeps first (Told (FindsOctets bytes span)) held s has =
       let size = length-append s.text bytes in
-      hold-keeps content.Octets bytes end s has (omega (arith, size)) (nat_le (length s.text + length bytes) input.limits.text)
-  land-keeps first (Told (FindsText bytes end)) held s has =
+      hold-keeps content.Octets bytes span s has (omega (arith, size)) (nat_le (length s.text + length bytes) input.limits.text)
+  land-keeps first (Told (FindsText bytes span)) held s has =
       let size = length-append s.text bytes in
-      hold-keeps content.Text bytes end s has
-      (omega (arith, size), subst IsUtf8 (sym (last-bytes s.text bytes)) (held (FindsText bytes end) refl))
+      hold-keeps content.Text bytes span s has
+      (omega (arith, size), subst IsUtf8 (sym (last-bytes s.text bytes)) (held (FindsText bytes span) refl))
       (nat_le (length s.text + length bytes) input.limits.text)
   land-keeps first TooFar held s has = has
   land-keeps first Missing held s has = has
@@ -577,20 +591,30 @@ module _ (input : Input) (small : All (λ b. b < 256) input.bytes) where
   follow-keeps (Failed cause bit) o next keeps has = has
   follow-keeps (Stopped cause quantity) o next keeps has = has
 
+  -- the lengths of a content that is done, and then the rest of its box
+  rest-from-keeps : (from : ℕ) → Keeps (rest_from input from)
+  rest-from-keeps from s has =
+      let t : State = with_span (s.stop - from) (s.at - from) s in
+      rest-keeps t (spans (s.stop - from) (s.at - from) s has) (nat_le t.stop t.at)
+
+  spanned-keeps : (body : State → Outcome) → Keeps body → Keeps (spanned body)
+  spanned-keeps body keeps s has =
+      follow-keeps (body s).end (body s) (span_ends s.at) (λ t kept. spans (t.at - s.at) (t.at - s.at) t kept) (keeps s has)
+
   boxed-keeps : (bits : ℕ) (body : State → Outcome) → Keeps body → (s : State) → Has s → (room : Bool)
       → Has (cond room
-      (let o : Outcome = then_do (body (boxed_at (s.at + bits) s)) (rest_of input) in unboxed o.end s.stop s.hidden o)
+      (let o : Outcome = then_do (body (boxed_at (s.at + bits) s)) (rest_from input s.at) in unboxed o.end s.stop s.hidden o)
       (ended (Failed LengthOutOfRange s.at) s)).state
   boxed-keeps bits body keeps s has true =
       let inside : State = boxed_at (s.at + bits) s in
-      let o : Outcome = then_do (body inside) (rest_of input) in
+      let o : Outcome = then_do (body inside) (rest_from input s.at) in
       unboxed-keeps o.end s.stop s.hidden o
-      (follow-keeps (body inside).end (body inside) (rest_of input) (λ t kept. rest-keeps t kept (nat_le t.stop t.at)) (keeps inside has))
+      (follow-keeps (body inside).end (body inside) (rest_from input s.at) (rest-from-keeps s.at) (keeps inside has))
   boxed-keeps bits body keeps s has false = has
 
   begun-has : (id : ℕ) (instead : Instead) (s : State) → Has s → Has (begun id instead s)
   begun-has id instead s has =
-      let last : Node = record { element = id; parent = s.inside; content = Begun } in
+      let last : Node = record { element = id; parent = s.inside; content = Begun; lengths = None } in
       All-append (λ (n : Node). HasText s.text n.content) s.nodes (last ∷ []) has
       (both_have (λ (n : Node). HasText s.text n.content) last [] tt (λ i d less. absurd (omega arith)))
 
@@ -620,7 +644,7 @@ module _ (input : Input) (small : All (λ b. b < 256) input.bytes) where
       (attempt-keeps Nothing s has) (λ instead before marks kept same is one. attempt-keeps instead (again_at s before marks kept) has)
       (λ instead t held. held) (λ cause bit t held. held) (λ instead cause quantity t held. held)
       (λ instead t held. held) (tried-stays input id complex body goes s) (tried-returns input id complex body goes s)
-      tried (any_ok InsteadNil tried.nil) (any_ok Empty tried.empty)
+      tried (any_ok InsteadNil tried.nil) (any_ok Empty tried.empty) (any_ok Empty tried.where_tried.empty)
 
   -- what is held whatever marks are open
   abbrev HasBy : List Mark → State → Type 0
@@ -646,6 +670,14 @@ module _ (input : Input) (small : All (λ b. b < 256) input.bytes) where
   choice-keeps child keeps goes initiated ids s has =
       choice-carried HasBy EndsBy holding child goes (λ id marks t held. keeps id t held) initiated ids s.marks s has
 
+  untried-keeps : (e : End) (o : Outcome) → Has o.state → Has (untried e o).state
+  untried-keeps Done o has = has
+  untried-keeps (Failed cause bit) o has = has
+  untried-keeps (Stopped cause quantity) o has = has
+
+  once-keeps : (tried : Bool) (body : State → Outcome) → Keeps body → Keeps (occurring tried body)
+  once-keeps tried body keeps s has = let o : Outcome = body (as_occurrence tried s) in untried-keeps o.end o (keeps (as_occurrence tried s) has)
+
   occurrences-keep : (body : State → Outcome) → Keeps body → Goes body → (initiated : Bool) (left : ℕ) → Keeps (occurrences body initiated left)
   occurrences-keep body keeps goes initiated left s has =
       occurrences-carried HasBy EndsBy holding body goes (λ marks t held. keeps t held) initiated left s.marks s has
@@ -653,7 +685,8 @@ module _ (input : Input) (small : All (λ b. b < 256) input.bytes) where
   separated-keeps : (sequence : Sequence) → ((id : ℕ) → Keeps (sequence.child id)) → ((id : ℕ) → Goes (sequence.child id))
       → (policy : SeparatorSuppressionPolicy) (slots : List Slot) → Keeps (separated sequence policy slots)
   separated-keeps sequence keeps goes policy slots s has =
-      separated-carried HasBy EndsBy holding sequence goes (λ id marks t held. keeps id t held) policy slots s.marks s has
+      separated-carried HasBy EndsBy holding sequence (λ id tried. once-goes input tried (sequence.child id) (goes id))
+      (λ id tried marks t held. once-keeps tried (sequence.child id) (keeps id) t held) (λ id marks t held. keeps id t held) policy slots s.marks s has
 
   group-keeps : (child : ℕ → State → Outcome) → ((id : ℕ) → Keeps (child id)) → (children : List ℕ) → Keeps (group child children)
   group-keeps child keeps [] s has = has
@@ -672,6 +705,19 @@ module _ (input : Input) (small : All (λ b. b < 256) input.bytes) where
   key-keeps table start child keeps keys found s has =
       key-comes (λ (e : End) (t : State). Has t) s (λ cause kept ways. has) table start child keys
       (λ id kept ways. keeps id (record s { variables = kept }) has) found
+
+  -- an instance of a variable
+  closed-keeps : (e : End) (o : Outcome) → Has o.state → Has (closed_behind e o).state
+  closed-keeps Done o has = has
+  closed-keeps (Failed cause bit) o has = has
+  closed-keeps (Stopped cause quantity) o has = has
+
+  instanced-keeps : (table : Table) (number : ℕ) (body : State → Outcome) → Keeps body → Keeps (instanced table number body)
+  instanced-keeps table number body keeps s has =
+      opened-comes (λ (e : End) (t : State). Has t) s (λ cause kept ways. has) body (λ kept ways. keeps (record s { variables = kept }) has)
+      (λ number start kept ways.
+      let inside : State = record s { variables = entered kept number start } in
+      closed-keeps (body inside).end (body inside) (keeps inside has)) table (opening_of (slice_get table.statements number))
 
   -- statements
   default-keeps : (v : Value) (t : State) → Has t → is_written v ≡ true → Has (land input.limits t.at (Told (default_find t.at v)) t).state
@@ -744,7 +790,7 @@ module _ (input : Input) (small : All (λ b. b < 256) input.bytes) where
         asked-keeps table (Inside s.inside) NegativeCount (λ count after. group child (replicate count body) after)
         (λ count. group-keeps child keeps (replicate count body)) (question_at table question) s has
     row-keeps child keeps goes id (Some (Optional most item initiated body)) s has =
-        occurrences-keep (child body) (keeps body) (goes body) initiated most s has
+        occurrences-keep (occurring true (child body)) (once-keeps true (child body) (keeps body)) (once-goes input true (child body) (goes body)) initiated most s has
     row-keeps child keeps goes id (Some (ChoiceRow branches initiated)) s has = choice-keeps child keeps goes initiated branches s has
     row-keeps child keeps goes id (Some (Dispatch question keys)) s has =
         key-keeps table (Inside s.inside) child keeps keys (question_at table question) s has
@@ -752,9 +798,11 @@ module _ (input : Input) (small : All (λ b. b < 256) input.bytes) where
         statement-comes input Has (λ (e : End) (t : State). Has t) holding-tells table number s has
     row-keeps child keeps goes id (Some (Concluded behind body)) s has = concluded-keeps table (Inside s.inside) behind (child body s) (keeps body s has)
     row-keeps child keeps goes id (Some (Hidden body)) s has = keeps body s has
+    row-keeps child keeps goes id (Some (Spanned body)) s has = spanned-keeps (child body) (keeps body) s has
+    row-keeps child keeps goes id (Some (Instance statement body)) s has = instanced-keeps table statement (child body) (keeps body) s has
     row-keeps child keeps goes id (Some (Separated policy position initiated slots)) s has =
         let sequence : Sequence =
-        record { input = input; delimiters = table.delimiters; child = child; position = position; initiated = initiated } in
+        record { input = input; table = table; child = child; position = position; initiated = initiated } in
         separated-keeps sequence keeps goes policy slots s has
     row-keeps child keeps goes id (Some (PrefixedBox prefix body)) s has =
         prefixed-keeps table.delimiters (slice_get table.primitives prefix.prim) prefix.own (λ units after. boxed input (bits_of_units prefix.unit units) (child body) after)

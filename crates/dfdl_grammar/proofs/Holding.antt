@@ -1,5 +1,5 @@
 -- The bytes of the values of a document's elements are there, and those of its strings are UTF-8.
-use Rattle.std.proofs.Common.{◌≡◌, ℕ, zero, suc, ◌+◌, ◌≤◌, refl, List, [], ◌∷◌, ◌++◌, length, take, drop, Bool, true, false, cond, All, ap, sym, subst, ◌∙◌, arith, IsUtf8, encode_utf8, length-append}
+use Rattle.std.proofs.Common.{◌≡◌, ℕ, zero, suc, ◌+◌, ◌≤◌, refl, List, [], ◌∷◌, ◌++◌, length, take, drop, Bool, true, false, cond, All, Option, ap, sym, subst, ◌∙◌, arith, IsUtf8, encode_utf8, length-append}
 use Rattle.std.proofs.Math.Seq.{drop-append_seam, take-length}
 use Rattle.std.proofs.lemmas.List.{take-append-le, drop-append-le, length-drop}
 use Rattle.std.proofs.lemmas.Str.{IsUtf8-append, IsUtf8-encode, IsUtf8-nil}
@@ -13,7 +13,8 @@ use Rattle.dfdl_region.specs.declared.node.Node.{Node}
 use Rattle.dfdl_region.specs.declared.node.Content.{Content}
 use Rattle.dfdl_region.specs.declared.node.Content.TheVariants.{Begun, Complex, Nil, Signed, Unsigned, Decimal, Truth, Text, Octets}
 use Rattle.dfdl_region.specs.Bytes.{bytes_at, utf8_of}
-use Rattle.dfdl_region.specs.Nodes.{with_content}
+use Rattle.dfdl_region.specs.declared.node.Lengths.{Lengths}
+use Rattle.dfdl_region.specs.Nodes.{with_content, with_lengths}
 use Rattle.dfdl_region.specs.Texts.{HasText}
 
 -- the rest of a list, and its first element
@@ -112,3 +113,14 @@ content-has P (node ∷ nodes) zero content is all =
 content-has P (node ∷ nodes) (suc number) content is all =
     both_have (λ (n : Node). P n.content) node (with_content nodes number content) (first_has (λ (n : Node). P n.content) node nodes all)
     (content-has P nodes number content is (rest_has (λ (n : Node). P n.content) node nodes all))
+
+-- so it is where one has other lengths
+pub lengths-has : (P : Content → Type 0) (nodes : List Node) (number : ℕ) (lengths : Option Lengths) → All (λ (n : Node). P n.content) nodes
+    → All (λ (n : Node). P n.content) (with_lengths nodes number lengths)
+lengths-has P [] number lengths all = all
+lengths-has P (node ∷ nodes) zero lengths all =
+    both_have (λ (n : Node). P n.content) (record node { lengths = lengths }) nodes (first_has (λ (n : Node). P n.content) node nodes all)
+    (rest_has (λ (n : Node). P n.content) node nodes all)
+lengths-has P (node ∷ nodes) (suc number) lengths all =
+    both_have (λ (n : Node). P n.content) node (with_lengths nodes number lengths) (first_has (λ (n : Node). P n.content) node nodes all)
+    (lengths-has P nodes number lengths (rest_has (λ (n : Node). P n.content) node nodes all))

@@ -8,7 +8,10 @@ pub mod Tested
 pub mod Ways
 pub mod Stated
 pub mod Asked
+pub mod Entered
+pub mod Opened
 pub mod Represented
+pub mod Lengthened
 pub mod Grown
 pub mod Carried
 pub mod Gone

@@ -34,9 +34,9 @@ module _ (P : End → State → Type 0) (s : State)
     land-comes : (own first : ℕ) (reached : Reached Find) → (reached ≡ Missing → ⊥)
         → P (land_prefix input.limits own first next reached s).end (land_prefix input.limits own first next reached s).state
     land-comes own first (Told (Fails cause)) here = fails cause (failing_bit cause s.at first)
-    land-comes own first (Told (Finds content end)) here = behind-comes end (units_told own content)
-    land-comes own first (Told (FindsOctets bytes end)) here = behind-comes end None
-    land-comes own first (Told (FindsText bytes end)) here = behind-comes end None
+    land-comes own first (Told (Finds content span)) here = behind-comes span.end (units_told own content)
+    land-comes own first (Told (FindsOctets bytes span)) here = behind-comes span.end None
+    land-comes own first (Told (FindsText bytes span)) here = behind-comes span.end None
     land-comes own first TooFar here = stops (Limit Window) input.limits.window
     land-comes own first Missing here = absurd (here refl)
 

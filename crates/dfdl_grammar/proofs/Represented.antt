@@ -14,7 +14,7 @@ use Rattle.dfdl_grammar.specs.States.{State}
 use Rattle.dfdl_grammar.specs.Outcomes.{Outcome}
 use Rattle.dfdl_grammar.specs.Marks.{AreSame, back, closed, mark_at, marked, unresolved}
 use Rattle.dfdl_grammar.proofs.Ways.{IsBack}
-use Rattle.dfdl_grammar.specs.Representations.{Attempt, after_empty, or_else, refuse, refused_among, represented, the_last, then_empty, then_nil, then_normal}
+use Rattle.dfdl_grammar.specs.Representations.{Attempt, after_empty, or_else, refuse, refused_among, is_occurrence, representations_in, represented, represented_by, the_last, then_empty, then_nil, then_normal}
 
 -- the state with a mark, which is a point of uncertainty or not, where content is read by this in place of its own primitive
 abbrev pub marked_as : Bool → Bool → State → Instead → State
@@ -155,6 +155,10 @@ module _ (P : End → State → Type 0) (Q : Instead → End → State → Type 
   several-come tried nil_is empty_is true = nil-comes tried tried.nil nil_is empty_is s.instead (marked s).marks s.variables refl (λ sound. refl)
   several-come tried nil_is empty_is false = alone
 
-  pub represented-comes : (tried : Representations) → IsOk ok Nil tried.nil → IsOk ok Empty tried.empty
+  pub represented-comes : (tried : Representations) → IsOk ok Nil tried.nil → IsOk ok Empty tried.empty → IsOk ok Empty tried.where_tried.empty
       → P (represented tried attempt s).end (represented tried attempt s).state
-  represented-comes tried nil_is empty_is = several-come tried nil_is empty_is tried.are_several
+  represented-comes tried nil_is empty_is tried_is = by (is_occurrence s.instead)
+    where
+      by : (occurrence : Bool) → (let o : Outcome = represented_by (representations_in occurrence tried) attempt s in P o.end o.state)
+      by true = several-come (representations_in true tried) nil_is tried_is tried.where_tried.are_several
+      by false = several-come tried nil_is empty_is tried.are_several

@@ -1,8 +1,9 @@
 -- The slots of a sequence carry what their occurrences carry.
-use Rattle.std.proofs.Common.{◌≡◌, refl, inl, List, [], ◌∷◌, ℕ, zero, suc, Bool, true, false, cond, ◌&&◌, nat_lt, Some, None, sym, subst, ◌∙◌, ap}
+use Rattle.std.proofs.Common.{◌≡◌, refl, inl, List, [], ◌∷◌, ℕ, zero, suc, Bool, true, false, cond, ◌&&◌, nat_lt, Option, Some, None, sym, subst, ◌∙◌, ap}
 use Rattle.dfdl_bits.specs.declared.window.Seen.{Seen}
+use Rattle.dfdl_paths.specs.declared.place.Start.TheVariants as start
 use Rattle.dfdl_report.specs.declared.cause.LimitCause.TheVariants.{Window}
-use Rattle.dfdl_report.specs.declared.cause.ParseCause.TheVariants.{EmptyTrailingSlot, SeparatorMissing}
+use Rattle.dfdl_report.specs.declared.cause.ParseCause.TheVariants.{EmptyTrailingSlot, NegativeCount, SeparatorMissing}
 use Rattle.dfdl_looks.specs.Asks.{Ask, Reached, Told, TooFar, Missing, ask}
 use Rattle.dfdl_looks.specs.Looks.{seen_in}
 use Rattle.dfdl_looks.specs.Tallies.{nothing}
@@ -22,20 +23,24 @@ use Rattle.dfdl_separators.specs.Courses.{course as course_of}
 use Rattle.dfdl_separators.specs.Groups.{begun, ending, here_of, moved_by}
 use Rattle.dfdl_separators.specs.Verdicts.{begins, by_tried, ends, is_past, missing, outcome_of, rule_of}
 use Rattle.dfdl_terms.specs.declared.slots.Slot.{Slot}
+use Rattle.dfdl_vars.specs.Kept.{Kept}
 use Rattle.dfdl_grammar.specs.declared.end.End.{End}
 use Rattle.dfdl_grammar.specs.declared.end.End.TheVariants.{Done, Failed, Stopped}
 use Rattle.dfdl_grammar.specs.declared.end.Halt.{Halt}
 use Rattle.dfdl_grammar.specs.declared.end.Halt.TheVariants.{Limit}
 use Rattle.dfdl_grammar.specs.declared.mark.Mark.{Mark}
 use Rattle.dfdl_grammar.specs.States.{Input, State, anchor}
-use Rattle.dfdl_grammar.specs.Outcomes.{Outcome, ended}
+use Rattle.dfdl_grammar.specs.Outcomes.{Outcome, ended, follow, then_do}
 use Rattle.dfdl_grammar.specs.Delimiters.{separator}
 use Rattle.dfdl_grammar.specs.Marks.{AreSame, back, is_settled, pointed}
-use Rattle.dfdl_grammar.specs.Slots.{Course, Sequence, Tail, Turn, after_closing, after_content, after_separator, ask_empty, ask_separator, begin, closed_slot, content, decide, emptied, ended_by, has_mark, in_slots, is_blank, is_taken_back, is_tried, occur, opened_slot, opens_before, peek, separated, settle, settled_by, slot, taken_back, times, told, without_separator}
+use Rattle.dfdl_grammar.specs.Questions.{question_at}
+use Rattle.dfdl_grammar.specs.Occurrences.{occurring}
+use Rattle.dfdl_grammar.specs.Slots.{Course, Sequence, Tail, Turn, after_closing, after_content, after_separator, ask_empty, ask_separator, begin, closed_slot, content, decide, emptied, ended_by, has_mark, in_row, in_slots, is_blank, is_taken_back, is_tried, occur, opened_slot, opens_before, peek, separated, settle, settled_by, slot, taken_back, then_slots, times, told, told_row, without_separator}
+use Rattle.dfdl_grammar.proofs.Asked.{count-comes}
 use Rattle.dfdl_grammar.proofs.Found.{whole-told}
 use Rattle.dfdl_grammar.proofs.Grown.{Goes, behind}
 use Rattle.dfdl_grammar.proofs.Sought.{separator-comes}
-use Rattle.dfdl_grammar.proofs.Ways.{goes_same}
+use Rattle.dfdl_grammar.proofs.Ways.{GoesOn, goes_same}
 use Rattle.dfdl_grammar.proofs.Carried.{Carried, Carries, Since}
 use Rattle.dfdl_grammar.proofs.SlottedMoves.{Decides, IsLeft, Settles, any-of, decides, failed-falls, not-before, settles, stands, tried-of}
 use Rattle.dfdl_grammar.proofs.SlottedStates.{InSlot, around, begins-slot, closes-slot, ends-slot, goes-back, goes-back-failed, moves-slot, own_marks, stops-slot}
@@ -61,7 +66,8 @@ module _ (R : List Mark → State → Type 0) (P : List Mark → End → State �
 
   module _ (sequence : Sequence) (marks : List Mark) where
     -- one slot
-    module _ (body : ℕ) (goes : Goes (sequence.child body)) (carried : Carried R P (sequence.child body)) (more none : Tail)
+    module _ (body : ℕ) (goes : (tried : Bool) → Goes (occurring tried (sequence.child body)))
+        (carried : (tried : Bool) → Carried R P (occurring tried (sequence.child body))) (more none : Tail)
         (more_carried : CarriedTail marks more) (none_carried : CarriedTail marks none) (group : Progress) (rule : SlotRule) (last : ℕ) where
       abbrev here : Here
       here = here_of group rule
@@ -163,10 +169,10 @@ module _ (R : List Mark → State → Type 0) (P : List Mark → End → State �
         decide-comes content tried TakeSeparator o is whole backed holds =
             let s : State = cond (is_blank (outcome_of tried)) (emptied content o.state) o.state in
             let held : Held s = left-held content o (outcome_of tried) is whole backed in
-            let found : Outcome = separator sequence.input sequence.delimiters s in
+            let found : Outcome = separator sequence.input sequence.table.delimiters s in
             closing-comes content tried found.end found refl
             (separator-comes (λ (e : End) (t : State). Held t) s (held-moves s held) (λ cause. held) (λ cause quantity. held)
-            sequence.input sequence.delimiters)
+            sequence.input sequence.table.delimiters)
         decide-comes content tried LookForSeparator o is whole backed holds =
             let s : State = cond (is_blank (outcome_of tried)) (emptied content o.state) o.state in
             let held : Held s = left-held content o (outcome_of tried) is whole backed in
@@ -201,9 +207,9 @@ module _ (R : List Mark → State → Type 0) (P : List Mark → End → State �
         occur-comes : (empty : Bool) → (is_tried rule ≡ false → empty ≡ false) → (t : State) → Held t
             → P marks (occur sequence turn reading empty t).end (occur sequence turn reading empty t).state
         occur-comes empty full t held =
-            let o : Outcome = sequence.child body t in
-            after-comes t.at empty full o.end o refl (carried own t held.0)
-            (λ is. behind (pointed sequence.initiated (around (has_mark here) u)) t o.state o.end (held.1 is) (goes t))
+            let o : Outcome = occurring (is_tried rule) (sequence.child body) t in
+            after-comes t.at empty full o.end o refl (carried (is_tried rule) own t held.0)
+            (λ is. behind (pointed sequence.initiated (around (has_mark here) u)) t o.state o.end (held.1 is) (goes (is_tried rule) t))
 
         -- the content of a slot whose marks are open, if it has any
         content-held : opens_before here ≡ true → (t : State) → Held t → (tried : Bool) → is_tried rule ≡ tried
@@ -295,22 +301,22 @@ module _ (R : List Mark → State → Type 0) (P : List Mark → End → State �
           subst (λ (e : End). P marks e o.state) same (carries.ends marks (Stopped cause quantity) o.state has)
 
       seek-comes : (s : State) → R marks s → (before : Bool) → opens_before here ≡ before
-          → (let o : Outcome = separator sequence.input sequence.delimiters (cond before (opened_slot sequence here s) s) in
+          → (let o : Outcome = separator sequence.input sequence.table.delimiters (cond before (opened_slot sequence here s) s) in
           P marks (after_separator sequence turn seeking o.end o).end (after_separator sequence turn seeking o.end o).state)
       seek-comes s has true is =
           let opened : State = opened_slot sequence here s in
           let held : Held s has opened = begins-slot R P carries sequence.initiated s marks (is_tried rule) (has_mark here) has in
-          let o : Outcome = separator sequence.input sequence.delimiters opened in
+          let o : Outcome = separator sequence.input sequence.table.delimiters opened in
           behind-held s has is (any-of rule (begins here) is) o.end o refl
           (separator-comes (λ (e : End) (t : State). Held s has t) opened (held-moves s has opened held) (λ cause. held) (λ cause quantity. held)
-          sequence.input sequence.delimiters)
+          sequence.input sequence.table.delimiters)
       seek-comes s has false is =
-          let o : Outcome = separator sequence.input sequence.delimiters s in
+          let o : Outcome = separator sequence.input sequence.table.delimiters s in
           behind-comes is o.end o refl
           (separator-comes (λ (e : End) (t : State). R marks t) s
           (λ at others same. carries.moves marks (record s { marks = others }) at
           (carries.again marks others s s.instead s.variables has (inl refl) same (goes_same s.variables)))
-          (λ cause. has) (λ cause quantity. has) sequence.input sequence.delimiters)
+          (λ cause. has) (λ cause quantity. has) sequence.input sequence.table.delimiters)
 
       -- a slot begins
       missing-comes : (s : State) → R marks s → (course : Course) (any : SlotRule) (after : Progress)
@@ -330,7 +336,9 @@ module _ (R : List Mark → State → Type 0) (P : List Mark → End → State �
       begin-comes s has false false is =
           content-comes (ap (λ (b : Bool). is_taken_back rule && b) is ∙ not-before rule) s has (is_tried rule) refl
 
-    module _ (goes : (id : ℕ) → Goes (sequence.child id)) (carried : (id : ℕ) → Carried R P (sequence.child id)) where
+    module _ (goes : (id : ℕ) (tried : Bool) → Goes (occurring tried (sequence.child id)))
+        (carried : (id : ℕ) (tried : Bool) → Carried R P (occurring tried (sequence.child id)))
+        (beside : (id : ℕ) → Carried R P (sequence.child id)) where
       slot-carried : (optional parsed : Bool) (body : ℕ) (more none : Tail) → CarriedTail marks more → CarriedTail marks none
           → CarriedTail marks (slot sequence optional parsed body more none)
       slot-carried optional parsed body more none more_carried none_carried course s has =
@@ -356,13 +364,49 @@ module _ (R : List Mark → State → Type 0) (P : List Mark → End → State �
       ended-comes LookForSeparator course s has = carries.ends marks Done s has
       ended-comes Parse course s has = carries.ends marks Done s has
 
+      -- the slots of one row, of which a question may tell how many are required
+      row-carried : (own : Slot) (least : ℕ) (next : Tail) → CarriedTail marks next → CarriedTail marks (in_row sequence own least next)
+      row-carried own least next next_carried course s has =
+          times-carried false false own.body least (times sequence true own.is_parsed own.body own.further next)
+          (times-carried true own.is_parsed own.body own.further next next_carried) course s has
+
+      read-has : (s : State) → R marks s → (kept : Kept) → GoesOn s.variables kept → R marks (record s { variables = kept })
+      read-has s has kept ways = carries.again marks s.marks s s.instead kept has (inl refl) refl ways
+
+      told-carried : (own : Slot) (question : Option ℕ) (next : Tail) → CarriedTail marks next → CarriedTail marks (told_row sequence own question next)
+      told-carried own None next next_carried course s has = row-carried own own.least next next_carried course s has
+      told-carried own (Some question) next next_carried course s has =
+          count-comes (λ (e : End) (t : State). P marks e t) s
+          (λ cause kept ways. carries.ends marks (Failed cause s.at) (record s { variables = kept }) (read-has s has kept ways)) sequence.table
+          (start.Inside s.inside) NegativeCount (λ count after. in_row sequence own count next course after)
+          (λ count kept ways. row-carried own count next next_carried course (record s { variables = kept }) (read-has s has kept ways))
+          (question_at sequence.table question)
+
+      -- a row without a slot, and what follows it
+      follow-carried : (e : End) (o : Outcome) → e ≡ o.end → P marks o.end o.state → (next : State → Outcome)
+          → ((t : State) → R marks t → P marks (next t).end (next t).state)
+          → P marks (follow e o next).end (follow e o next).state
+      follow-carried Done o same holds next goes_on =
+          goes_on o.state (carries.done marks o.state (subst (λ (e : End). P marks e o.state) (sym same) holds))
+      follow-carried (Failed cause bit) o same holds next goes_on = holds
+      follow-carried (Stopped cause quantity) o same holds next goes_on = holds
+
+      then-carried : (own : Slot) (next : Tail) → CarriedTail marks next → CarriedTail marks (then_slots sequence own next)
+      then-carried own next next_carried course s has = by own.is_slotless
+        where
+          by : (slotless : Bool) → let out : Outcome =
+              cond slotless (then_do (sequence.child own.body s) (next course)) (told_row sequence own own.question next course s) in P marks out.end out.state
+          by true =
+              let o : Outcome = sequence.child own.body s in
+              follow-carried o.end o refl (beside own.body marks s has) (next course) (λ t has. next_carried course t has)
+          by false = told-carried own own.question next next_carried course s has
+
       slots-carried : (slots : List Slot) → CarriedTail marks (in_slots sequence slots)
       slots-carried [] course s has = ended-comes (ending course.progress) course s has
-      slots-carried (own ∷ slots) course s has =
-          times-carried false false own.body own.least (times sequence true own.is_parsed own.body own.further (in_slots sequence slots))
-          (times-carried true own.is_parsed own.body own.further (in_slots sequence slots) (slots-carried slots)) course s has
+      slots-carried (own ∷ slots) course s has = then-carried own (in_slots sequence slots) (slots-carried slots) course s has
 
-  pub separated-carried : (sequence : Sequence) → ((id : ℕ) → Goes (sequence.child id)) → ((id : ℕ) → Carried R P (sequence.child id))
+  pub separated-carried : (sequence : Sequence) → ((id : ℕ) (tried : Bool) → Goes (occurring tried (sequence.child id)))
+      → ((id : ℕ) (tried : Bool) → Carried R P (occurring tried (sequence.child id))) → ((id : ℕ) → Carried R P (sequence.child id))
       → (policy : SeparatorSuppressionPolicy) (slots : List Slot) → Carried R P (separated sequence policy slots)
-  separated-carried sequence goes carried policy slots marks s has =
-      slots-carried sequence marks goes carried slots (record { progress = begun policy sequence.position; last = s.at }) s has
+  separated-carried sequence goes carried beside policy slots marks s has =
+      slots-carried sequence marks goes carried beside slots (record { progress = begun policy sequence.position; last = s.at }) s has

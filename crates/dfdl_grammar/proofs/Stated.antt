@@ -13,7 +13,7 @@ use Rattle.dfdl_report.specs.declared.cause.ParseCause.{ParseCause}
 use Rattle.dfdl_report.specs.declared.cause.ParseCause.TheVariants.{ExpressionFault}
 use Rattle.dfdl_terms.specs.Rows.{Table}
 use Rattle.dfdl_terms.specs.declared.statement.Statement.{Statement}
-use Rattle.dfdl_terms.specs.declared.statement.Statement.TheVariants.{Pattern, Expression, Setting, Calculation, Question}
+use Rattle.dfdl_terms.specs.declared.statement.Statement.TheVariants.{Pattern, Expression, Setting, Calculation, Question, Opening}
 use Rattle.dfdl_terms.specs.declared.statement.Statements.{Statements}
 use Rattle.dfdl_looks.specs.Asks.{Told}
 use Rattle.dfdl_grammar.specs.declared.end.End.{End}
@@ -72,6 +72,7 @@ module _ (Q : State → Type 0) (again : Restates Q) (table : Table) (start : St
   reconsidered-again (Some (Setting setting)) t has = has
   reconsidered-again (Some (Calculation calculation)) t has = has
   reconsidered-again (Some (Question question)) t has = has
+  reconsidered-again (Some (Opening opening)) t has = has
 
   pub all-again : (first count : ℕ) (t : State) → Q t → Q (reconsidered_from table start first count t)
   unfolding reconsidered_from
@@ -136,6 +137,7 @@ module _ (limits : Limits) (R : State → Type 0) (P : End → State → Type 0)
       calculated-comes (taken calculation.kind (evaluated table start calculation.expression t)) (with_reads table start calculation.expression t)
       (reads-come start calculation.expression t has)
   stated-comes start number (Some (Question question)) t has = tells.ends Done t has
+  stated-comes start number (Some (Opening opening)) t has = tells.ends Done t has
 
   follow-comes : (e : End) (o : Outcome) (next : State → Outcome) → e ≡ o.end → P o.end o.state → Comes next
       → P (follow e o next).end (follow e o next).state
@@ -196,6 +198,7 @@ module _ (input : Input) (R : State → Type 0) (P : End → State → Type 0) (
       let found : Option Statement = Some (Calculation calculation) in
       stated-comes input.limits R P tells table (start_of found t) number found t has
   found-comes number (Some (Question question)) t has = tells.ends Done t has
+  found-comes number (Some (Opening opening)) t has = tells.ends Done t has
 
   pub statement-comes : (number : ℕ) (t : State) → R t → P (statement input table number t).end (statement input table number t).state
   statement-comes number t has = found-comes number (slice_get table.statements number) t has

@@ -10,7 +10,7 @@ use Rattle.dfdl_terms.specs.declared.representations.Representations.{Representa
 use Rattle.dfdl_value.specs.declared.value.Value.{Value}
 use Rattle.dfdl_terms.specs.declared.row.Primitive.{Primitive}
 use Rattle.dfdl_terms.specs.declared.row.Row.{Row}
-use Rattle.dfdl_terms.specs.declared.row.Row.TheVariants.{Leaf, Elem, Group, Skip, Align, Initiator, Terminator, Separator, Scope, Boxed, PrefixedLeaf, PrefixedBox, MeasuredLeaf, MeasuredBox, Repeat, Counted, Optional, Choice as ChoiceRow, Dispatch, Statement, Concluded, Hidden, Separated}
+use Rattle.dfdl_terms.specs.declared.row.Row.TheVariants.{Leaf, Elem, Group, Skip, Align, Initiator, Terminator, Separator, Scope, Boxed, PrefixedLeaf, PrefixedBox, MeasuredLeaf, MeasuredBox, Repeat, Counted, Optional, Choice as ChoiceRow, Dispatch, Statement, Concluded, Hidden, Spanned, Instance, Separated}
 use Rattle.dfdl_separators.specs.declared.policy.SeparatorSuppressionPolicy.{SeparatorSuppressionPolicy}
 use Rattle.dfdl_terms.specs.declared.slots.Slot.{Slot}
 use Rattle.dfdl_terms.specs.declared.statement.Statements.{Statements}
@@ -20,11 +20,12 @@ use Rattle.dfdl_paths.specs.declared.place.Start.{Start}
 use Rattle.dfdl_paths.specs.declared.place.Start.TheVariants.{At, Inside}
 use Rattle.dfdl_expressions.specs.declared.node.Node.{Node as ExpressionNode}
 use Rattle.dfdl_surroundings.specs.Answers.{element_of}
-use Rattle.dfdl_vars.specs.Kept.{Kept}
+use Rattle.dfdl_vars.specs.Kept.{Kept, entered, without_innermost}
 use Rattle.dfdl_region.specs.declared.node.Node.{Node}
 use Rattle.dfdl_region.specs.declared.node.Content.{Content}
 use Rattle.dfdl_region.specs.declared.node.Content.TheVariants.{Begun, Complex, Text, Octets}
-use Rattle.dfdl_region.specs.Nodes.{with_content}
+use Rattle.dfdl_region.specs.declared.node.Lengths.{Lengths}
+use Rattle.dfdl_region.specs.Nodes.{with_content, with_lengths}
 use Rattle.dfdl_looks.specs.Asks.{Reached, Told, TooFar, Missing, ask}
 use Rattle.dfdl_looks.specs.Looks.{seen_in}
 use Rattle.dfdl_looks.specs.Tallies.{needs_from, nothing}
@@ -33,27 +34,32 @@ use Rattle.dfdl_grammar.specs.declared.end.End.TheVariants.{Done, Failed, Stoppe
 use Rattle.dfdl_grammar.specs.declared.end.Halt.TheVariants.{Limit}
 use Rattle.dfdl_grammar.specs.declared.instead.Instead.{Instead}
 use Rattle.dfdl_grammar.specs.declared.mark.Mark.{Mark}
-use Rattle.dfdl_grammar.specs.declared.instead.Instead.TheVariants.{Nothing, Nil, Empty}
+use Rattle.dfdl_grammar.specs.declared.instead.Instead.TheVariants.{Nothing, Nil, Empty, Tried}
 use Rattle.dfdl_grammar.specs.States.{Input, State, anchor, anchor_at}
 use Rattle.dfdl_grammar.specs.Documents.{front_at}
 use Rattle.dfdl_grammar.specs.Outcomes.{Outcome, ended, follow, spend, then_do}
-use Rattle.dfdl_grammar.specs.Leaves.{Find, Fails, Finds, FindsOctets, FindsText, content_begins, default_find, has_room, land, leaf, nil_values, program_for, read_by}
+use Rattle.dfdl_grammar.specs.Leaves.{Find, Fails, Finds, FindsOctets, FindsText, content_begins, default_find, has_room, land, leaf, nil_values, program_for, read_by, taken_as}
 use Rattle.dfdl_grammar.specs.Framing.{aligned, fill_to, has_byte, passed}
 use Rattle.dfdl_grammar.specs.Delimiters.{closes_to, lists_of, markup, opens, scoped, unscoped}
-use Rattle.dfdl_grammar.specs.Boxes.{boxed, boxed_at, bytes_up_to, pass_bytes, past_byte, rest as rest_of, unboxed}
+use Rattle.dfdl_grammar.specs.Boxes.{boxed, boxed_at, bytes_up_to, pass_bytes, past_byte, rest as rest_of, rest_from, unboxed}
+use Rattle.dfdl_grammar.specs.Spans.{span_ends, spanned, with_span}
+use Rattle.dfdl_grammar.specs.declared.span.Span.{Span}
+use Rattle.dfdl_grammar.proofs.Lengthened.{lengths-length, lengths-same}
 use Rattle.dfdl_grammar.specs.Elements.{attempted, begun, close, element, has_elements, left}
 use Rattle.dfdl_grammar.specs.Marks.{closed}
 use Rattle.dfdl_grammar.specs.Choices.{choice}
-use Rattle.dfdl_grammar.specs.Occurrences.{occurrences}
+use Rattle.dfdl_grammar.specs.Occurrences.{as_occurrence, occurrences, occurring, untried}
 use Rattle.dfdl_grammar.specs.Slots.{Sequence, separated}
 use Rattle.dfdl_grammar.specs.Statements.{concluded, told_at}
 use Rattle.dfdl_grammar.specs.Prefixes.{bits_of_units, leaf_of, prefixed, resized, size_of, sized_leaf}
 use Rattle.dfdl_grammar.specs.Questions.{asked_count, asked_key, question_at}
 use Rattle.dfdl_grammar.specs.Rows.{below, group, meaning, row, row_at}
 use Rattle.dfdl_grammar.specs.Trees.{IsNode, IsTree}
-use Rattle.dfdl_grammar.proofs.Going.{below-goes, tried-returns, tried-stays}
+use Rattle.dfdl_grammar.proofs.Going.{below-goes, tried-returns, tried-stays, once-goes}
 use Rattle.dfdl_grammar.proofs.Grown.{Goes, begun-longer, content-length}
+use Rattle.dfdl_grammar.specs.Instances.{closed_behind, instanced, opening_of, with_instance}
 use Rattle.dfdl_grammar.proofs.Asked.{count-comes, key-comes}
+use Rattle.dfdl_grammar.proofs.Opened.{opened-comes}
 use Rattle.dfdl_grammar.proofs.Prefixed.{prefixed-comes}
 use Rattle.dfdl_grammar.proofs.Carried.{Carried, Carries}
 use Rattle.dfdl_grammar.proofs.Pointed.{choice-carried, occurrences-carried}
@@ -111,6 +117,18 @@ content-tree table nodes number content tree at node is =
       element = subst (λ (id : ℕ). IsElementRow (slice_get table.rows id)) one.element good.element;
     }
 
+lengths-tree : (table : Table) (nodes : List Node) (number : ℕ) (lengths : Option Lengths) → IsTree table nodes → IsTree table (with_lengths nodes number lengths)
+lengths-tree table nodes number lengths tree at node is =
+    let one = lengths-same nodes number at lengths node is in
+    let good = tree at one.old one.there in
+    let parent = good.parent in
+    let same = one.parent in
+    record {
+      parent = omega arith;
+      earlier = λ some. let less = good.earlier some in omega arith;
+      element = subst (λ (id : ℕ). IsElementRow (slice_get table.rows id)) one.element good.element;
+    }
+
 last-tree : (table : Table) (nodes : List Node) (last : Node) → (all : ℕ) → ((number : ℕ) (node : Node) → slice_get nodes number ≡ Some node → IsNode table (all + number) node)
     → IsNode table (all + length nodes) last
     → (number : ℕ) (node : Node) → slice_get (nodes ++ last ∷ []) number ≡ Some node → IsNode table (all + number) node
@@ -150,6 +168,27 @@ module _ (input : Input) (table : Table) where
         omega arith,
       )
 
+  -- lengths of the open element leave the tree as it is
+  spans : (content value : ℕ) (s : State) → Grows table s → Follows s (with_span content value s)
+  spans content value s good =
+      let lengths : Option Lengths = Some (record { content = content; value = value }) in
+      let size = lengths-length s.nodes s.inside lengths in
+      let few = good.few in (
+        record {
+          tree = lengths-tree table s.nodes s.inside lengths good.tree;
+          few = omega arith;
+          open_one = λ some. let less = good.open_one (omega arith) in omega arith;
+        },
+        omega arith,
+      )
+
+  -- one after another
+  both : (s t u : State) → Follows s t → Follows t u → Follows s u
+  both s t u first second =
+      let a = first.1 in
+      let b = second.1 in
+      (second.0, omega arith)
+
   -- a state with the elements of another one, of which the same is open
   alike : (s t : State) → Grows table s → t.nodes ≡ s.nodes → t.inside ≡ s.inside → Grows table t
   alike s t good nodes inside =
@@ -161,23 +200,27 @@ module _ (input : Input) (table : Table) where
         open_one = λ some. let less = good.open_one (omega arith) in omega arith;
       }
 
-  hold-keeps : (content : ℕ → ℕ → Content) (bytes : List ℕ) (end : ℕ) (s : State) → Grows table s → (room : Bool)
-      → Follows s (cond room (ended Done (record s {
-        at = end;
-        text = s.text ++ bytes;
-        nodes = with_content s.nodes s.inside (content (length s.text) (length bytes));
-      })) (ended (Stopped (Limit TextLimit) input.limits.text) s)).state
-  hold-keeps content bytes end s good true =
-      let made : Content = content (length s.text) (length bytes) in
-      let grown = content-grows s s.inside end s.inside made good good.few good.open_one in
-      (alike (record s { at = end; nodes = with_content s.nodes s.inside made; inside = s.inside }) _ grown.0 refl refl, grown.1)
-  hold-keeps content bytes end s good false = (good, same_length (length s.nodes))
+  -- a content that is put into the open element, and how long it is
+  taken-keeps : (content : Content) (span : Span) (s : State) → Grows table s → Follows s (taken_as content span s)
+  taken-keeps content span s good =
+      let grown = content-grows s s.inside span.end s.inside content good good.few good.open_one in
+      let t : State = record s { at = span.end; nodes = with_content s.nodes s.inside content } in
+      both s t (taken_as content span s) grown (spans (span.end - s.at) span.value t grown.0)
+
+  hold-keeps : (content : ℕ → ℕ → Content) (bytes : List ℕ) (span : Span) (s : State) → Grows table s → (room : Bool)
+      → Follows s (cond room (ended Done (record (taken_as (content (length s.text) (length bytes)) span s) { text = s.text ++ bytes }))
+      (ended (Stopped (Limit TextLimit) input.limits.text) s)).state
+  hold-keeps content bytes span s good true =
+      let made : State = taken_as (content (length s.text) (length bytes)) span s in
+      let grown = taken-keeps (content (length s.text) (length bytes)) span s good in
+      (alike made (record made { text = s.text ++ bytes }) grown.0 refl refl, grown.1)
+  hold-keeps content bytes span s good false = (good, same_length (length s.nodes))
 
   land-keeps : (first : ℕ) (reached : Reached Find) → Keeps (land input.limits first reached)
   land-keeps first (Told (Fails cause)) s good = (good, same_length (length s.nodes))
-  land-keeps first (Told (Finds content end)) s good = content-grows s s.inside end s.inside content good good.few good.open_one
-  land-keeps first (Told (FindsOctets bytes end)) s good = hold-keeps Octets bytes end s good (nat_le (length s.text + length bytes) input.limits.text)
-  land-keeps first (Told (FindsText bytes end)) s good = hold-keeps Text bytes end s good (nat_le (length s.text + length bytes) input.limits.text)
+  land-keeps first (Told (Finds content span)) s good = taken-keeps content span s good
+  land-keeps first (Told (FindsOctets bytes span)) s good = hold-keeps Octets bytes span s good (nat_le (length s.text + length bytes) input.limits.text)
+  land-keeps first (Told (FindsText bytes span)) s good = hold-keeps Text bytes span s good (nat_le (length s.text + length bytes) input.limits.text)
   land-keeps first TooFar s good = (good, same_length (length s.nodes))
   land-keeps first Missing s good = (good, same_length (length s.nodes))
 
@@ -225,7 +268,7 @@ module _ (input : Input) (table : Table) where
 
   begun-grows : (id : ℕ) (instead : Instead) (s : State) → IsElementRow (slice_get table.rows id) → Grows table s → Grows table (begun id instead s)
   begun-grows id instead s elem good =
-      let node : Node = record { element = id; parent = s.inside; content = Begun } in
+      let node : Node = record { element = id; parent = s.inside; content = Begun; lengths = None } in
       let size = begun-longer id instead s in
       let few = good.few in
       let one : IsNode table (0 + length s.nodes) node = subst (λ (n : ℕ). IsNode table n node) (sym (zero-add (length s.nodes)))
@@ -290,7 +333,7 @@ module _ (input : Input) (table : Table) where
       (λ cause bit t began. ((alike t (closed t) began.0.0 refl refl, began.0.1), λ done. absurd (cc)))
       (λ instead cause quantity t began. began)
       (λ instead t began. (refused-follows s t began, λ done. absurd (cc))) (tried-stays input id complex body goes s)
-      (tried-returns input id complex body goes s) tried (any_ok Nil tried.nil) (any_ok Empty tried.empty)
+      (tried-returns input id complex body goes s) tried (any_ok Nil tried.nil) (any_ok Empty tried.empty) (any_ok Empty tried.where_tried.empty)
 
   follow-keeps : (end : End) (o : Outcome) (next : State → Outcome) → Keeps next → Grows table o.state → Follows o.state (follow end o next).state
   follow-keeps Done o next keeps good = keeps o.state good
@@ -334,15 +377,28 @@ module _ (input : Input) (table : Table) where
       let b = last.1 in
       (last.0, omega arith)
 
+  -- the lengths of a content that is done, and then the rest of its box
+  rest-from-keeps : (from : ℕ) → Keeps (rest_from input from)
+  rest-from-keeps from s good =
+      let t : State = with_span (s.stop - from) (s.at - from) s in
+      let first = spans (s.stop - from) (s.at - from) s good in
+      both s t (rest_from input from s).state first (rest-keeps t first.0 (nat_le t.stop t.at))
+
+  spanned-keeps : (body : State → Outcome) → Keeps body → Keeps (spanned body)
+  spanned-keeps body keeps s good =
+      let first = keeps s good in
+      both s (body s).state (spanned body s).state first
+      (follow-keeps (body s).end (body s) (span_ends s.at) (λ t grown. spans (t.at - s.at) (t.at - s.at) t grown) first.0)
+
   boxed-keeps : (bits : ℕ) (body : State → Outcome) → Keeps body → (s : State) → Grows table s → (room : Bool)
       → Follows s (cond room
-      (let o : Outcome = then_do (body (boxed_at (s.at + bits) s)) (rest_of input) in unboxed o.end s.stop s.hidden o)
+      (let o : Outcome = then_do (body (boxed_at (s.at + bits) s)) (rest_from input s.at) in unboxed o.end s.stop s.hidden o)
       (ended (Failed LengthOutOfRange s.at) s)).state
   boxed-keeps bits body keeps s good true =
       let inside : State = boxed_at (s.at + bits) s in
       let first = keeps inside (alike s inside good refl refl) in
-      let o : Outcome = then_do (body inside) (rest_of input) in
-      let last = follow-keeps (body inside).end (body inside) (rest_of input) (λ t grown. rest-keeps t grown (nat_le t.stop t.at)) first.0 in
+      let o : Outcome = then_do (body inside) (rest_from input s.at) in
+      let last = follow-keeps (body inside).end (body inside) (rest_from input s.at) (rest-from-keeps s.at) first.0 in
       let closed = unboxed-keeps o.end s.stop s.hidden o last.0 in
       let a = first.1 in
       let b = last.1 in
@@ -387,6 +443,20 @@ module _ (input : Input) (table : Table) where
       choice-carried (FollowsBy s) (EndsBy s) (growing s) child goes (λ id. growing-carried s (child id) (keeps id)) initiated ids s.marks s
       (good, same_length (length s.nodes))
 
+  untried-keeps : (e : End) (o : Outcome) → Grows table o.state → Follows o.state (untried e o).state
+  untried-keeps Done o good = (alike o.state (record o.state { instead = Nothing }) good refl refl, same_length (length o.state.nodes))
+  untried-keeps (Failed cause bit) o good = (alike o.state (record o.state { instead = Nothing }) good refl refl, same_length (length o.state.nodes))
+  untried-keeps (Stopped cause quantity) o good = (good, same_length (length o.state.nodes))
+
+  once-keeps : (tried : Bool) (body : State → Outcome) → Keeps body → Keeps (occurring tried body)
+  once-keeps tried body keeps s good =
+      let inside : State = as_occurrence tried s in
+      let first = keeps inside (alike s inside good refl refl) in
+      let last = untried-keeps (body inside).end (body inside) first.0 in
+      let a = first.1 in
+      let b = last.1 in
+      (last.0, omega arith)
+
   occurrences-keep : (body : State → Outcome) → Keeps body → Goes body → (initiated : Bool) (left : ℕ) → Keeps (occurrences body initiated left)
   occurrences-keep body keeps goes initiated left s good =
       occurrences-carried (FollowsBy s) (EndsBy s) (growing s) body goes (growing-carried s body keeps) initiated left s.marks s
@@ -395,8 +465,9 @@ module _ (input : Input) (table : Table) where
   separated-keeps : (sequence : Sequence) → ((id : ℕ) → Keeps (sequence.child id)) → ((id : ℕ) → Goes (sequence.child id))
       → (policy : SeparatorSuppressionPolicy) (slots : List Slot) → Keeps (separated sequence policy slots)
   separated-keeps sequence keeps goes policy slots s good =
-      separated-carried (FollowsBy s) (EndsBy s) (growing s) sequence goes (λ id. growing-carried s (sequence.child id) (keeps id)) policy slots
-      s.marks s
+      separated-carried (FollowsBy s) (EndsBy s) (growing s) sequence (λ id tried. once-goes input tried (sequence.child id) (goes id))
+      (λ id tried. growing-carried s (occurring tried (sequence.child id)) (once-keeps tried (sequence.child id) (keeps id)))
+      (λ id. growing-carried s (sequence.child id) (keeps id)) policy slots s.marks s
       (good, same_length (length s.nodes))
 
   group-keeps : (child : ℕ → State → Outcome) → ((id : ℕ) → Keeps (child id)) → (children : List ℕ) → Keeps (group child children)
@@ -423,6 +494,28 @@ module _ (input : Input) (table : Table) where
   key-keeps start child keeps keys found s good =
       key-comes (λ (e : End) (t : State). Follows s t) s (λ cause kept ways. read-follows s kept good) table start child keys
       (λ id kept ways. keeps id (record s { variables = kept }) (read-follows s kept good).0) found
+
+  -- an instance of a variable
+  closed-keeps : (e : End) (o : Outcome) → Grows table o.state → Follows o.state (closed_behind e o).state
+  closed-keeps Done o good = read-follows o.state (without_innermost o.state.variables) good
+  closed-keeps (Failed cause bit) o good = read-follows o.state (without_innermost o.state.variables) good
+  closed-keeps (Stopped cause quantity) o good = (good, same_length (length o.state.nodes))
+
+  instance-keeps : (body : State → Outcome) → Keeps body → (number : ℕ) (start : Option Value) → Keeps (with_instance number start body)
+  instance-keeps body keeps number start s good =
+      let inside : State = record s { variables = entered s.variables number start } in
+      let first = keeps inside (read-follows s (entered s.variables number start) good).0 in
+      let last = closed-keeps (body inside).end (body inside) first.0 in
+      let a = first.1 in
+      let b = last.1 in
+      (last.0, omega arith)
+
+  instanced-keeps : (number : ℕ) (body : State → Outcome) → Keeps body → Keeps (instanced table number body)
+  instanced-keeps number body keeps s good =
+      opened-comes (λ (e : End) (t : State). Follows s t) s (λ cause kept ways. read-follows s kept good) body
+      (λ kept ways. keeps (record s { variables = kept }) (read-follows s kept good).0)
+      (λ number start kept ways. instance-keeps body keeps number start (record s { variables = kept }) (read-follows s kept good).0) table
+      (opening_of (slice_get table.statements number))
 
   -- statements
   tree-tells : (start : Start) (s : State) → Tells input.limits (λ (t : State). Stands table start s t) (λ (e : End) (t : State). Stands table start s t)
@@ -542,7 +635,7 @@ module _ (input : Input) (table : Table) where
       asked-keeps (Inside s.inside) NegativeCount (λ count after. group child (replicate count body) after)
       (λ count. group-keeps child keeps (replicate count body)) (question_at table question) s good
   row-keeps child keeps goes id (Some (Optional most item initiated body)) is s good =
-      occurrences-keep (child body) (keeps body) (goes body) initiated most s good
+      occurrences-keep (occurring true (child body)) (once-keeps true (child body) (keeps body)) (once-goes input true (child body) (goes body)) initiated most s good
   row-keeps child keeps goes id (Some (ChoiceRow branches initiated)) is s good = choice-keeps child keeps goes initiated branches s good
   row-keeps child keeps goes id (Some (Dispatch question keys)) is s good =
       key-keeps (Inside s.inside) child keeps keys (question_at table question) s good
@@ -556,9 +649,11 @@ module _ (input : Input) (table : Table) where
       let o : Outcome = child body s in
       concluded-keeps (Inside s.inside) behind s o (group-stands s o.end o.state good (keeps body s good))
   row-keeps child keeps goes id (Some (Hidden body)) is s good = keeps body s good
+  row-keeps child keeps goes id (Some (Spanned body)) is s good = spanned-keeps (child body) (keeps body) s good
+  row-keeps child keeps goes id (Some (Instance statement body)) is s good = instanced-keeps statement (child body) (keeps body) s good
   row-keeps child keeps goes id (Some (Separated policy position initiated slots)) is s good =
       let sequence : Sequence =
-      record { input = input; delimiters = table.delimiters; child = child; position = position; initiated = initiated } in
+      record { input = input; table = table; child = child; position = position; initiated = initiated } in
       separated-keeps sequence keeps goes policy slots s good
   row-keeps child keeps goes id (Some (PrefixedBox prefix body)) is s good =
       prefixed-keeps table.delimiters (slice_get table.primitives prefix.prim) prefix.own (λ units after. boxed input (bits_of_units prefix.unit units) (child body) after)

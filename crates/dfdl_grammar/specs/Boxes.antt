@@ -11,6 +11,7 @@ use Rattle.dfdl_grammar.specs.declared.end.Halt.TheVariants.{Limit}
 use Rattle.dfdl_grammar.specs.States.{Input, State, anchor_at}
 use Rattle.dfdl_grammar.specs.Outcomes.{Outcome, ended, spend, then_do}
 use Rattle.dfdl_grammar.specs.Framing.{has_byte}
+use Rattle.dfdl_grammar.specs.Spans.{with_span}
 
 -- What follows a byte of the rest of a box, by whether it is there. Where it isn't, this fails at the first bit of the rest.
 abbrev pub past_byte : ℕ → Reached Bool → (State → Outcome) → State → Outcome
@@ -34,6 +35,15 @@ bytes_up_to stop k = (stop + 7) / 8 - k
 abbrev pub rest : Input → State → Outcome
 rest input s = if nat_le s.stop s.at then ended Done s else pass_bytes input (bytes_up_to s.stop (s.at / 8)) (s.at / 8) s
 
+-- the content of the innermost box is done, which began at this bit: the open element is as long as its box, and its value as what was
+-- moved over
+abbrev pub filled_from : ℕ → State → State
+filled_from from s = with_span (s.stop - from) (s.at - from) s
+
+-- what the content leaves of the box then
+abbrev pub rest_from : Input → ℕ → State → Outcome
+rest_from input from s = rest input (filled_from from s)
+
 -- a box that ends at this bit begins: no list that is open around it ends a content in it
 abbrev pub boxed_at : ℕ → State → State
 boxed_at stop s = record s { stop = stop; hidden = length s.lists }
@@ -49,5 +59,5 @@ unboxed (Stopped cause quantity) outer hidden o = o
 abbrev pub boxed : Input → ℕ → (State → Outcome) → State → Outcome
 boxed input bits body s =
     if nat_le (s.at + bits) s.stop
-    then (let o : Outcome = then_do (body (boxed_at (s.at + bits) s)) (rest input) in unboxed o.end s.stop s.hidden o)
+    then (let o : Outcome = then_do (body (boxed_at (s.at + bits) s)) (rest_from input s.at) in unboxed o.end s.stop s.hidden o)
     else ended (Failed LengthOutOfRange s.at) s

@@ -16,7 +16,7 @@ use Rattle.dfdl_grammar.specs.declared.end.End.{End}
 use Rattle.dfdl_grammar.specs.declared.end.End.TheVariants.{Done, Failed, Stopped}
 use Rattle.dfdl_grammar.specs.declared.end.Halt.TheVariants.{Limit}
 use Rattle.dfdl_grammar.specs.declared.instead.Instead.{Instead}
-use Rattle.dfdl_grammar.specs.declared.instead.Instead.TheVariants.{Nothing, Nil, Empty}
+use Rattle.dfdl_grammar.specs.declared.instead.Instead.TheVariants.{Nothing, Nil, Empty, Tried}
 use Rattle.dfdl_grammar.specs.States.{Input, State, anchor_at}
 use Rattle.dfdl_grammar.specs.Outcomes.{Outcome, ended, spend}
 use Rattle.dfdl_grammar.specs.Framing.{aligned}
@@ -43,6 +43,7 @@ abbrev pub stands_in : Instead → Delimiter → Bool
 stands_in Nothing delimiter = true
 stands_in (Nil prim) delimiter = delimiter.in_nil
 stands_in (Empty prim) delimiter = delimiter.in_empty
+stands_in Tried delimiter = true
 
 -- the longest text of some lists at the next whole byte behind a bit, in a box that ends at another bit
 abbrev pub sought_among : List Opened → ℕ → ℕ → Ask Longest

@@ -24,7 +24,7 @@ has_elements (Some simple) = false
 -- own primitive
 abbrev pub begun : ℕ → Instead → State → State
 begun id instead s = record s {
-  nodes = s.nodes ++ record { element = id; parent = s.inside; content = Begun } ∷ [];
+  nodes = s.nodes ++ record { element = id; parent = s.inside; content = Begun; lengths = None } ∷ [];
   inside = length s.nodes;
   instead = instead;
 }

@@ -53,11 +53,13 @@ use Rattle.dfdl_looks.specs.Tallies.{needs_from, nothing}
 use Rattle.dfdl_grammar.specs.declared.end.End.TheVariants.{Done, Failed, Stopped}
 use Rattle.dfdl_grammar.specs.declared.end.Halt.TheVariants.{Limit}
 use Rattle.dfdl_grammar.specs.declared.instead.Instead.{Instead}
-use Rattle.dfdl_grammar.specs.declared.instead.Instead.TheVariants.{Nothing, Nil as InsteadNil, Empty}
+use Rattle.dfdl_grammar.specs.declared.instead.Instead.TheVariants.{Nothing, Nil as InsteadNil, Empty, Tried}
 use Rattle.dfdl_grammar.specs.declared.limits.Limits.{Limits}
 use Rattle.dfdl_grammar.specs.States.{Input, State, anchor}
 use Rattle.dfdl_grammar.specs.Outcomes.{Outcome, ended, spend}
 use Rattle.dfdl_grammar.specs.Framing.{aligned}
+use Rattle.dfdl_grammar.specs.Spans.{filled, kept_to, vacant, with_span}
+use Rattle.dfdl_grammar.specs.declared.span.Span.{Span}
 use Rattle.dfdl_grammar.specs.Delimiters.{lists_of, markup}
 use Rattle.dfdl_grammar.specs.Delimited.{first_step, plain, scanned}
 use Rattle.dfdl_grammar.specs.Nils.{are_nil, is_nil}
@@ -65,12 +67,12 @@ use Rattle.dfdl_grammar.specs.Patterns.{matched_width, most_sought}
 use Rattle.dfdl_grammar.specs.Octets.{octets_from}
 
 -- What a leaf finds: why it fails; or its content, the bytes of a hexBinary or those of a string, as UTF-8, and the bit behind
--- its box.
+-- its box, with the length of its value.
 pub data Find : Type 0 where
   Fails : ParseCause → Find
-  Finds : Content → ℕ → Find
-  FindsOctets : List ℕ → ℕ → Find
-  FindsText : List ℕ → ℕ → Find
+  Finds : Content → Span → Find
+  FindsOctets : List ℕ → Span → Find
+  FindsText : List ℕ → Span → Find
 
 -- how many bytes some bits of the data lie in, at least one of them in the first byte
 abbrev pub bytes_spanned : ℕ → ℕ → ℕ
@@ -148,41 +150,41 @@ abbrev pub has_room : Primitive → ℕ → ℕ → Bool
 has_room primitive bit stop =
     nat_le (content_ends primitive bit stop) stop && nat_le (content_begins primitive bit) (content_ends primitive bit stop)
 
--- What a number before this bit is found as, by its value. Where it is no value of its type, it fails.
-abbrev pub find_of : ℕ → Option Value → Find
-find_of end (Some (Int z)) = Finds (Signed z) end
-find_of end (Some (Uns n)) = Finds (Unsigned n) end
-find_of end (Some (Dec d)) = Finds (Decimal d) end
-find_of end _ = Fails PastType
+-- What a number of this span is found as, by its value. Where it is no value of its type, it fails.
+abbrev pub find_of : Span → Option Value → Find
+find_of span (Some (Int z)) = Finds (Signed z) span
+find_of span (Some (Uns n)) = Finds (Unsigned n) span
+find_of span (Some (Dec d)) = Finds (Decimal d) span
+find_of span _ = Fails PastType
 
--- what a packed or zoned number before this bit is found as
-abbrev pub packed_find : ℕ → Result Value PackedFault → Find
-packed_find end (Ok value) = find_of end (Some value)
-packed_find end (Err packed.BadNibble) = Fails BadNibble
-packed_find end (Err packed.PastType) = Fails PastType
+-- what a packed or zoned number of this span is found as
+abbrev pub packed_find : Span → Result Value PackedFault → Find
+packed_find span (Ok value) = find_of span (Some value)
+packed_find span (Err packed.BadNibble) = Fails BadNibble
+packed_find span (Err packed.PastType) = Fails PastType
 
--- what a text number before this bit is found as
-abbrev pub number_find : ℕ → Result Value NumberFault → Find
-number_find end (Ok value) = find_of end (Some value)
-number_find end (Err number.NotANumber) = Fails NotANumber
-number_find end (Err number.PastType) = Fails PastType
+-- what a text number of this span is found as
+abbrev pub number_find : Span → Result Value NumberFault → Find
+number_find span (Ok value) = find_of span (Some value)
+number_find span (Err number.NotANumber) = Fails NotANumber
+number_find span (Err number.PastType) = Fails PastType
 
--- what a boolean before this bit is found as; where it is neither true nor false, it fails
-abbrev pub truth_find : ℕ → Option Bool → Find
-truth_find end (Some truth) = Finds (content.Truth truth) end
-truth_find end None = Fails UnknownBoolean
+-- what a boolean of this span is found as; where it is neither true nor false, it fails
+abbrev pub truth_find : Span → Option Bool → Find
+truth_find span (Some truth) = Finds (content.Truth truth) span
+truth_find span None = Fails UnknownBoolean
 
 -- what the leaf of a primitive finds whose box begins at a bit, in the bytes that its bits lie in
 abbrev pub find_in : Primitive → ℕ → List ℕ → Find
-find_in (Integer form) bit bytes = find_of (bit + form.bits) (integer_reading form (field_of form bytes (bit % 8)))
-find_in (Packed form) bit bytes = packed_find (bit + 4 * form.nibbles) (packed_reading form (nibbles_in form bytes (bit % 8)))
-find_in (Truth form) bit bytes = truth_find (bit + form.bits) (truth_reading form (truth_field_of form bytes (bit % 8)))
-find_in (Octets form) bit bytes = FindsOctets (octets_from form.bits_by bytes (bit % 8) (form.bits / 8)) (bit + form.bits)
-find_in (Text form) bit bytes = FindsText [] bit
-find_in (NilOctets form) bit bytes = FindsOctets [] bit
-find_in (Default form) bit bytes = FindsOctets [] bit
-find_in (NilValues form) bit bytes = FindsOctets [] bit
-find_in (Pattern form) bit bytes = FindsOctets [] bit
+find_in (Integer form) bit bytes = find_of (filled bit form.bits) (integer_reading form (field_of form bytes (bit % 8)))
+find_in (Packed form) bit bytes = packed_find (filled bit (4 * form.nibbles)) (packed_reading form (nibbles_in form bytes (bit % 8)))
+find_in (Truth form) bit bytes = truth_find (filled bit form.bits) (truth_reading form (truth_field_of form bytes (bit % 8)))
+find_in (Octets form) bit bytes = FindsOctets (octets_from form.bits_by bytes (bit % 8) (form.bits / 8)) (filled bit form.bits)
+find_in (Text form) bit bytes = FindsText [] (vacant bit)
+find_in (NilOctets form) bit bytes = FindsOctets [] (vacant bit)
+find_in (Default form) bit bytes = FindsOctets [] (vacant bit)
+find_in (NilValues form) bit bytes = FindsOctets [] (vacant bit)
+find_in (Pattern form) bit bytes = FindsOctets [] (vacant bit)
 
 -- The bits of a field are found by a look at each byte that they lie in, in the order of the data.
 abbrev pub field : Primitive → ℕ → Ask Find
@@ -191,20 +193,20 @@ field primitive bit = look_at (bytes_spanned bit (bits_of primitive)) (bit / 8) 
 -- the bytes of a hexBinary: a box without bits has none, and one that is no whole number of bytes is refused before any look
 abbrev pub octets : OctetForm → ℕ → Ask Find
 octets form bit =
-    if nat_eq form.bits 0 then Answer (FindsOctets [] bit)
+    if nat_eq form.bits 0 then Answer (FindsOctets [] (vacant bit))
     else if nat_eq (form.bits % 8) 0 then field (Octets form) bit
     else Answer (Fails NotFilled)
 
--- what bytes or characters before this bit are found as that have to be nil; where they aren't, another representation follows
-abbrev pub nil_find : ℕ → Bool → Find
-nil_find end is = if is then Finds content.Nil end else Fails RequiredEmpty
+-- what bytes or characters of this span are found as that have to be nil; where they aren't, another representation follows
+abbrev pub nil_find : Span → Bool → Find
+nil_find span is = if is then Finds content.Nil span else Fails RequiredEmpty
 
 -- what the bytes of a box are found as that have to be nil
 abbrev pub nil_octets_find : NilForm → Find → Find
 nil_octets_find form (Fails cause) = Fails cause
-nil_octets_find form (Finds content end) = Fails RequiredEmpty
-nil_octets_find form (FindsOctets bytes end) = nil_find end (are_nil form bytes)
-nil_octets_find form (FindsText bytes end) = Fails RequiredEmpty
+nil_octets_find form (Finds content span) = Fails RequiredEmpty
+nil_octets_find form (FindsOctets bytes span) = nil_find span (are_nil form bytes)
+nil_octets_find form (FindsText bytes span) = Fails RequiredEmpty
 
 -- the bytes of a box that have to be nil
 abbrev pub nil_octets : NilOctetsForm → ℕ → Ask Find
@@ -212,12 +214,12 @@ nil_octets form bit = and_then (octets form.octets bit) (λ find. Answer (nil_oc
 
 -- what a value is found as in a box without bits
 abbrev pub default_find : ℕ → Value → Find
-default_find bit (value.Int z) = Finds (Signed z) bit
-default_find bit (value.Uns n) = Finds (Unsigned n) bit
-default_find bit (value.Dec d) = Finds (Decimal d) bit
-default_find bit (value.Text text) = FindsText text bit
-default_find bit (value.Truth truth) = Finds (content.Truth truth) bit
-default_find bit (value.Bytes bytes) = FindsOctets bytes bit
+default_find bit (value.Int z) = Finds (Signed z) (vacant bit)
+default_find bit (value.Uns n) = Finds (Unsigned n) (vacant bit)
+default_find bit (value.Dec d) = Finds (Decimal d) (vacant bit)
+default_find bit (value.Text text) = FindsText text (vacant bit)
+default_find bit (value.Truth truth) = Finds (content.Truth truth) (vacant bit)
+default_find bit (value.Bytes bytes) = FindsOctets bytes (vacant bit)
 
 -- both are true, or both are false
 abbrev pub is_truth : Bool → Bool → Bool
@@ -245,9 +247,9 @@ is_text xs value = false
 -- what is found that has to be one of some values, which are nil; where it isn't, another representation follows
 abbrev pub nil_value_find : List Value → Find → Find
 nil_value_find values (Fails cause) = Fails cause
-nil_value_find values (Finds content end) = nil_find end (list_any (is_value content) values)
-nil_value_find values (FindsOctets bytes end) = nil_find end (list_any (is_bytes bytes) values)
-nil_value_find values (FindsText bytes end) = nil_find end (list_any (is_text bytes) values)
+nil_value_find values (Finds content span) = nil_find span (list_any (is_value content) values)
+nil_value_find values (FindsOctets bytes span) = nil_find span (list_any (is_bytes bytes) values)
+nil_value_find values (FindsText bytes span) = nil_find span (list_any (is_text bytes) values)
 
 -- there is no bit in a box of this size
 abbrev pub is_no_size : TextSize → Bool
@@ -280,23 +282,27 @@ text_behind (Bits bits) bit end = bit + bits
 text_behind (Characters count) bit end = 8 * end
 text_behind (Delimited scan) bit end = 8 * end
 
--- what the bytes of a hexBinary before this bit are found as, where its characters have them
-abbrev pub octets_find : ℕ → Option (List ℕ) → Find
-octets_find end (Some bytes) = FindsOctets bytes end
-octets_find end None = Fails BadCharacter
+-- what the bytes of a hexBinary of this span are found as, where its characters have them
+abbrev pub octets_find : Span → Option (List ℕ) → Find
+octets_find span (Some bytes) = FindsOctets bytes span
+octets_find span None = Fails BadCharacter
 
--- what characters before this bit are found as, by what they are read as
-abbrev pub content_find : TextContent → List ℕ → ℕ → Find
-content_find Plain characters end = FindsText (utf8_of characters) end
-content_find TextOctets characters end = octets_find end (encoded_text Iso88591 characters)
-content_find (Number form kind) characters end = number_find end (number_reading form kind characters)
-content_find (Zoned form) characters end = packed_find end (zoned_reading form characters)
-content_find (TextTruth form) characters end = truth_find end (truth_of form characters)
-content_find (Nil form) characters end = nil_find end (is_nil form characters)
+-- what characters of this span are found as, by what they are read as
+abbrev pub content_find : TextContent → List ℕ → Span → Find
+content_find Plain characters span = FindsText (utf8_of characters) span
+content_find TextOctets characters span = octets_find span (encoded_text Iso88591 characters)
+content_find (Number form kind) characters span = number_find span (number_reading form kind characters)
+content_find (Zoned form) characters span = packed_find span (zoned_reading form characters)
+content_find (TextTruth form) characters span = truth_find span (truth_of form characters)
+content_find (Nil form) characters span = nil_find span (is_nil form characters)
+
+-- what the characters are found as that trimming keeps of a text whose box ends at a bit: they are the value's, as they stand in the data
+abbrev pub kept_find : TextForm → ℕ → List ℕ → Find
+kept_find form end characters = content_find form.content characters (kept_to end form.encoding characters)
 
 -- what the characters of a text whose box begins at a bit are found as: they are read after trimming
 abbrev pub text_find : TextForm → ℕ → TextRead → Find
-text_find form bit (Reads characters end) = content_find form.content (trimmed form.pad characters) (text_behind form.size bit end)
+text_find form bit (Reads characters end) = kept_find form (text_behind form.size bit end) (trimmed form.pad characters)
 text_find form bit HasBad = Fails BadCharacter
 text_find form bit IsCut = Fails DataEnds
 text_find form bit IsBoxed = Fails LengthOutOfRange
@@ -319,7 +325,7 @@ unless_broken (steps.Fails cause) find = Fails cause
 -- what a content that markup ends is found as: it is read after trimming, which leaves escaped characters, up to the byte at which it ends
 abbrev pub delimited_find : TextForm → DelimitedContent → Find
 delimited_find form content =
-    unless_broken content.ends (content_find form.content (plain (trimmed_content form.pad content.characters)) (8 * content.last.byte))
+    unless_broken content.ends (kept_find form (8 * content.last.byte) (plain (trimmed_content form.pad content.characters)))
 
 -- a text of a size, in a box that begins at a bit, inside of one that ends at another bit, where texts of these lists are terminating markup
 abbrev pub text_of_size : TextForm → TextSize → List Opened → ℕ → ℕ → Ask Find
@@ -337,7 +343,8 @@ matched_from bit (suc width) = aligned 8 bit
 -- what the characters are found as in which a pattern is sought from a bit on: the number of bytes that it matches, in a box without
 -- bits where these begin
 abbrev pub pattern_find : PatternForm → ℕ → TextRead → Find
-pattern_find form bit (Reads characters end) = Finds (Unsigned (matched_width form characters)) (matched_from bit (matched_width form characters))
+pattern_find form bit (Reads characters end) =
+    Finds (Unsigned (matched_width form characters)) (vacant (matched_from bit (matched_width form characters)))
 pattern_find form bit HasBad = Fails BadCharacter
 pattern_find form bit IsCut = Fails DataEnds
 pattern_find form bit IsBoxed = Fails LengthOutOfRange
@@ -384,36 +391,38 @@ abbrev pub nil_values : List Primitive → Instead → Option (List Value)
 nil_values primitives Nothing = None
 nil_values primitives (InsteadNil prim) = values_in (slice_get primitives prim)
 nil_values primitives (Empty prim) = None
+nil_values primitives Tried = None
 
 -- the number of the primitive by which a leaf is read whose own has this number
 abbrev pub read_by : List Primitive → Instead → ℕ → ℕ
 read_by primitives Nothing prim = prim
 read_by primitives (InsteadNil instead) prim = reading_prim (values_in (slice_get primitives instead)) instead prim
 read_by primitives (Empty instead) prim = instead
+read_by primitives Tried prim = prim
 
 -- the bit at which a leaf fails: that of its box where this is longer than it can be, and else that of its content
 abbrev pub failing_bit : ParseCause → ℕ → ℕ → ℕ
 failing_bit LengthOutOfRange box content = box
 failing_bit _ box content = content
 
+-- the open element gets a content of this span
+abbrev pub taken_as : Content → Span → State → State
+taken_as content span s =
+    with_span (span.end - s.at) span.value (record s { at = span.end; nodes = with_content s.nodes s.inside content })
+
 -- the open element gets bytes as its value, where all such values are not more bytes than there may be
-abbrev pub hold : ℕ → (ℕ → ℕ → Content) → List ℕ → ℕ → State → Outcome
-hold most content bytes end s =
+abbrev pub hold : ℕ → (ℕ → ℕ → Content) → List ℕ → Span → State → Outcome
+hold most content bytes span s =
     if nat_le (length s.text + length bytes) most
-    then ended Done (record s {
-      at = end;
-      text = s.text ++ bytes;
-      nodes = with_content s.nodes s.inside (content (length s.text) (length bytes));
-    })
+    then ended Done (record (taken_as (content (length s.text) (length bytes)) span s) { text = s.text ++ bytes })
     else ended (Stopped (Limit TextLimit) most) s
 
 -- what a leaf's reading makes of the state, where its content begins at a bit
 abbrev pub land : Limits → ℕ → Reached Find → State → Outcome
 land limits first (Told (Fails cause)) s = ended (Failed cause (failing_bit cause s.at first)) s
-land limits first (Told (Finds content end)) s =
-    ended Done (record s { at = end; nodes = with_content s.nodes s.inside content })
-land limits first (Told (FindsOctets bytes end)) s = hold limits.text content.Octets bytes end s
-land limits first (Told (FindsText bytes end)) s = hold limits.text content.Text bytes end s
+land limits first (Told (Finds content span)) s = ended Done (taken_as content span s)
+land limits first (Told (FindsOctets bytes span)) s = hold limits.text content.Octets bytes span s
+land limits first (Told (FindsText bytes span)) s = hold limits.text content.Text bytes span s
 land limits first TooFar s = ended (Stopped (Limit Window) limits.window) s
 land limits first Missing s = ended Done s
 

@@ -1,4 +1,5 @@
 pub mod States
+pub mod Spans
 pub mod Outcomes
 pub mod Marks
 pub mod Framing
@@ -17,6 +18,7 @@ pub mod Tests
 pub mod Slots
 pub mod Occurrences
 pub mod Prefixes
+pub mod Instances
 pub mod Questions
 pub mod Rows
 pub mod Documents

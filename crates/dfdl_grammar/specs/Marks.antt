@@ -4,7 +4,9 @@ use Rattle.dfdl_vars.specs.Marks.{gone_back, mark_of}
 use Rattle.dfdl_region.specs.declared.node.Content.{Content}
 use Rattle.dfdl_region.specs.declared.node.Content.TheVariants.{Begun}
 use Rattle.dfdl_region.specs.declared.node.Node.{Node}
-use Rattle.dfdl_region.specs.Nodes.{with_content}
+use Rattle.dfdl_region.specs.declared.node.Lengths.{Lengths}
+use Rattle.dfdl_region.specs.Nodes.{with_content, with_lengths}
+use Rattle.dfdl_surroundings.specs.Answers.{lengths_of}
 use Rattle.dfdl_grammar.specs.declared.mark.Mark.{Mark}
 use Rattle.dfdl_grammar.specs.States.{State}
 
@@ -12,6 +14,10 @@ use Rattle.dfdl_grammar.specs.States.{State}
 abbrev pub content_of : Option Node → Content
 content_of None = Begun
 content_of (Some node) = node.content
+
+-- nodes of which the one of this number has another content, and other lengths
+abbrev pub with_known : List Node → ℕ → Content → Option Lengths → List Node
+with_known nodes number content lengths = with_lengths (with_content nodes number content) number lengths
 
 -- a mark at this state that is no point of uncertainty
 abbrev pub mark_at : State → Mark
@@ -25,6 +31,7 @@ mark_at s = record {
   text = length s.text;
   inside = s.inside;
   content = content_of (slice_get s.nodes s.inside);
+  lengths = lengths_of (slice_get s.nodes s.inside);
   variables = mark_of s.variables;
 }
 
@@ -74,12 +81,12 @@ abbrev pub AreSame : List Mark → List Mark → Type 0
 AreSame marks others = unresolved marks ≡ unresolved others
 
 -- the state at a mark: the elements that have begun since are gone, so are the bytes of values since, the element that was open has
--- what it had, and each variable is set and read as it was
+-- what it had, and is as long as it was, and each variable is set and read as it was
 abbrev pub back_to : Mark → State → State
 back_to mark s = record s {
   at = mark.at;
   stop = mark.stop;
-  nodes = with_content (take mark.nodes s.nodes) mark.inside mark.content;
+  nodes = with_known (take mark.nodes s.nodes) mark.inside mark.content mark.lengths;
   text = take mark.text s.text;
   inside = mark.inside;
   variables = gone_back mark.variables s.variables;

@@ -3,7 +3,7 @@
 use Rattle.std.specs.Prelude.{ℕ, zero, suc, nat_eq, Bool, ◌&&◌, if◌then◌else◌, List, [], ◌++◌, take, codes, decimal, Option, Some, None, slice_get}
 use Rattle.std.specs.List.{count_by}
 use Rattle.dfdl_terms.specs.declared.row.Row.{Row}
-use Rattle.dfdl_terms.specs.declared.row.Row.TheVariants.{Leaf, Elem, Group, Skip, Align, Initiator, Terminator, Separator, Scope, Boxed, PrefixedLeaf, PrefixedBox, MeasuredLeaf, MeasuredBox, Repeat, Counted, Optional, Choice, Dispatch, Statement, Concluded, Hidden, Separated}
+use Rattle.dfdl_terms.specs.declared.row.Row.TheVariants.{Leaf, Elem, Group, Skip, Align, Initiator, Terminator, Separator, Scope, Boxed, PrefixedLeaf, PrefixedBox, MeasuredLeaf, MeasuredBox, Repeat, Counted, Optional, Choice, Dispatch, Statement, Concluded, Hidden, Spanned, Instance, Separated}
 use Rattle.dfdl_terms.specs.Rows.{Table}
 use Rattle.dfdl_terms.specs.Arrays.{is_item}
 use Rattle.dfdl_region.specs.declared.node.Node.{Node}
@@ -33,6 +33,8 @@ name_of (Some (Dispatch question keys)) = []
 name_of (Some (Statement statement)) = []
 name_of (Some (Concluded behind body)) = []
 name_of (Some (Hidden body)) = []
+name_of (Some (Spanned body)) = []
+name_of (Some (Instance statement body)) = []
 name_of (Some (Separated policy position initiated slots)) = []
 
 -- the local name of an element

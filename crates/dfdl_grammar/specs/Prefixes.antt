@@ -90,9 +90,9 @@ behind_prefix end next s (Some units) = next units (record s { at = end })
 -- what a prefix's reading makes of the state, where its content begins at a bit
 abbrev pub land_prefix : Limits → ℕ → ℕ → (ℕ → State → Outcome) → Reached Find → State → Outcome
 land_prefix limits own first next (Told (Fails cause)) s = ended (Failed cause (failing_bit cause s.at first)) s
-land_prefix limits own first next (Told (Finds content end)) s = behind_prefix end next s (units_told own content)
-land_prefix limits own first next (Told (FindsOctets bytes end)) s = behind_prefix end next s None
-land_prefix limits own first next (Told (FindsText bytes end)) s = behind_prefix end next s None
+land_prefix limits own first next (Told (Finds content span)) s = behind_prefix span.end next s (units_told own content)
+land_prefix limits own first next (Told (FindsOctets bytes span)) s = behind_prefix span.end next s None
+land_prefix limits own first next (Told (FindsText bytes span)) s = behind_prefix span.end next s None
 land_prefix limits own first next TooFar s = ended (Stopped (Limit Window) limits.window) s
 land_prefix limits own first next Missing s = ended Done s
 

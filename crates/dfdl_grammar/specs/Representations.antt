@@ -1,12 +1,12 @@
 -- The representations of an element: nil, empty and normal, which are tried in this order from the same place. 'DFDL Data Syntax
 -- Grammar'.
-use Rattle.std.specs.Prelude.{ℕ, Bool, List, [], ◌∷◌, Option, Some, None, if◌then◌else◌}
+use Rattle.std.specs.Prelude.{ℕ, Bool, true, false, List, [], ◌∷◌, Option, Some, None, if◌then◌else◌}
 use Rattle.dfdl_terms.specs.declared.representations.Representations.{Representations}
 use Rattle.dfdl_grammar.specs.declared.end.End.{End}
 use Rattle.dfdl_grammar.specs.declared.end.End.TheVariants.{Done, Failed, Stopped}
 use Rattle.dfdl_report.specs.declared.cause.ParseCause.TheVariants.{RequiredEmpty}
 use Rattle.dfdl_grammar.specs.declared.instead.Instead.{Instead}
-use Rattle.dfdl_grammar.specs.declared.instead.Instead.TheVariants.{Nothing, Nil, Empty}
+use Rattle.dfdl_grammar.specs.declared.instead.Instead.TheVariants.{Nothing, Nil, Empty, Tried}
 use Rattle.dfdl_grammar.specs.declared.mark.Mark.{Mark}
 use Rattle.dfdl_grammar.specs.States.{State}
 use Rattle.dfdl_grammar.specs.Outcomes.{Outcome, spend}
@@ -59,6 +59,26 @@ then_nil tried None attempt s = then_empty tried.refuses_empty tried.empty attem
 then_nil tried (Some prim) attempt s =
     let o : Outcome = attempt (Nil prim) s in or_else o.end o (then_empty tried.refuses_empty tried.empty attempt)
 
--- an element by its representations: where they are several, a mark is open meanwhile
+-- these representations: where they are several, a mark is open meanwhile
+abbrev pub represented_by : Representations → Attempt → State → Outcome
+represented_by tried attempt s = if tried.are_several then then_nil tried tried.nil attempt (marked s) else attempt Nothing s
+
+-- the element that begins next is an occurrence that is tried
+abbrev pub is_occurrence : Instead → Bool
+is_occurrence Nothing = false
+is_occurrence (Nil prim) = false
+is_occurrence (Empty prim) = false
+is_occurrence Tried = true
+
+-- the representations of an element, or of an occurrence of it that is tried, which never takes a default
+abbrev pub representations_in : Bool → Representations → Representations
+representations_in true tried = record tried {
+  empty = tried.where_tried.empty;
+  refuses_empty = tried.where_tried.refuses_empty;
+  are_several = tried.where_tried.are_several;
+}
+representations_in false tried = tried
+
+-- an element by its representations
 abbrev pub represented : Representations → Attempt → State → Outcome
-represented tried attempt s = if tried.are_several then then_nil tried tried.nil attempt (marked s) else attempt Nothing s
+represented tried attempt s = represented_by (representations_in (is_occurrence s.instead) tried) attempt s

@@ -1,7 +1,7 @@
 -- The meaning of each row, by that of the rows inside it, which stand below it. 'DFDL Data Syntax Grammar'.
-use Rattle.std.specs.Prelude.{ℕ, zero, suc, nat_eq, List, [], ◌∷◌, length, Option, Some, None, slice_get, replicate, if◌then◌else◌}
+use Rattle.std.specs.Prelude.{ℕ, zero, suc, nat_eq, true, List, [], ◌∷◌, length, Option, Some, None, slice_get, replicate, if◌then◌else◌}
 use Rattle.dfdl_terms.specs.declared.row.Row.{Row}
-use Rattle.dfdl_terms.specs.declared.row.Row.TheVariants.{Leaf, Elem, Group, Skip, Align, Initiator, Terminator, Separator, Scope, Boxed, PrefixedLeaf, PrefixedBox, MeasuredLeaf, MeasuredBox, Repeat, Counted, Optional, Choice as ChoiceRow, Dispatch, Statement, Concluded, Hidden, Separated}
+use Rattle.dfdl_terms.specs.declared.row.Row.TheVariants.{Leaf, Elem, Group, Skip, Align, Initiator, Terminator, Separator, Scope, Boxed, PrefixedLeaf, PrefixedBox, MeasuredLeaf, MeasuredBox, Repeat, Counted, Optional, Choice as ChoiceRow, Dispatch, Statement, Concluded, Hidden, Spanned, Instance, Separated}
 use Rattle.dfdl_terms.specs.Rows.{Table}
 use Rattle.dfdl_grammar.specs.declared.end.End.TheVariants.{Done}
 use Rattle.dfdl_looks.specs.Tallies.{one_row}
@@ -11,13 +11,15 @@ use Rattle.dfdl_grammar.specs.Leaves.{leaf, nil_values, read_by}
 use Rattle.dfdl_grammar.specs.Framing.{align, skip}
 use Rattle.dfdl_grammar.specs.Delimiters.{initiator, scoped, separator, terminator}
 use Rattle.dfdl_grammar.specs.Boxes.{boxed}
+use Rattle.dfdl_grammar.specs.Spans.{spanned}
 use Rattle.dfdl_grammar.specs.Elements.{element, has_elements}
 use Rattle.dfdl_grammar.specs.Prefixes.{prefixed_box, prefixed_leaf}
 use Rattle.dfdl_grammar.specs.Questions.{counted, dispatched, measured_box, measured_leaf}
 use Rattle.dfdl_grammar.specs.Choices.{choice}
-use Rattle.dfdl_grammar.specs.Occurrences.{occurrences}
+use Rattle.dfdl_grammar.specs.Occurrences.{occurrences, occurring}
 use Rattle.dfdl_paths.specs.declared.place.Start.TheVariants.{At, Inside}
 use Rattle.dfdl_grammar.specs.Statements.{concluded, statement}
+use Rattle.dfdl_grammar.specs.Instances.{instanced}
 use Rattle.dfdl_grammar.specs.Slots.{separated}
 
 -- rows one after another
@@ -50,14 +52,16 @@ row input table child id (Some (MeasuredLeaf measure prim)) s =
 row input table child id (Some (MeasuredBox measure body)) s = measured_box input table measure (child body) s
 row input table child id (Some (Repeat count body)) s = group child (replicate count body) s
 row input table child id (Some (Counted question body)) s = counted table (group child) question body s
-row input table child id (Some (Optional most item initiated body)) s = occurrences (child body) initiated most s
+row input table child id (Some (Optional most item initiated body)) s = occurrences (occurring true (child body)) initiated most s
 row input table child id (Some (ChoiceRow branches initiated)) s = choice child initiated branches s
 row input table child id (Some (Dispatch question keys)) s = dispatched table child question keys s
 row input table child id (Some (Statement number)) s = statement input table number s
 row input table child id (Some (Concluded behind body)) s = concluded input.limits table (Inside s.inside) behind (child body s)
 row input table child id (Some (Hidden body)) s = child body s
+row input table child id (Some (Spanned body)) s = spanned (child body) s
+row input table child id (Some (Instance statement body)) s = instanced table statement (child body) s
 row input table child id (Some (Separated policy position initiated slots)) s =
-    separated (record { input = input; delimiters = table.delimiters; child = child; position = position; initiated = initiated }) policy slots s
+    separated (record { input = input; table = table; child = child; position = position; initiated = initiated }) policy slots s
 
 -- the row of this number of the table, with its cost
 abbrev pub row_at : Input → Table → (ℕ → State → Outcome) → ℕ → State → Outcome

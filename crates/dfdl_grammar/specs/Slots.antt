@@ -2,9 +2,10 @@
 -- when, dfdl_separators says; here is what that does to the state. 'Sequence Groups' (sequence groups with separators), 'Parsing
 -- Algorithm' (points of uncertainty).
 use Rattle.std.specs.Prelude.{ℕ, zero, suc, ◌-◌, ◌/◌, Bool, true, false, ◌&&◌, ◌||◌, nat_eq, nat_le, nat_lt, List, [], ◌∷◌, length, Option, Some, None, if◌then◌else◌}
+use Rattle.dfdl_paths.specs.declared.place.Start.TheVariants as start
 use Rattle.dfdl_report.specs.declared.cause.LimitCause.TheVariants.{Window}
 use Rattle.dfdl_report.specs.declared.cause.ParseCause.{ParseCause}
-use Rattle.dfdl_report.specs.declared.cause.ParseCause.TheVariants.{EmptyTrailingSlot, SeparatorMissing}
+use Rattle.dfdl_report.specs.declared.cause.ParseCause.TheVariants.{EmptyTrailingSlot, NegativeCount, SeparatorMissing}
 use Rattle.dfdl_delims.specs.Lists.{Opened}
 use Rattle.dfdl_delims.specs.Longest.{Longest, Text, NoText}
 use Rattle.dfdl_looks.specs.Asks.{Ask, Answer, Reached, Told, TooFar, Missing, Reading, and_then, ask, look_at}
@@ -23,22 +24,24 @@ use Rattle.dfdl_separators.specs.declared.verdict.SlotRule.{SlotRule}
 use Rattle.dfdl_separators.specs.declared.verdict.SlotRule.TheVariants.{Required, NeverMissing, TrailingMissing, AnyMissing}
 use Rattle.dfdl_separators.specs.Groups.{begun, ending, group_after, here_of, move_at}
 use Rattle.dfdl_separators.specs.Verdicts.{begins, ends, outcome, rule_of}
-use Rattle.dfdl_terms.specs.declared.delimiters.Delimiters.{Delimiters}
 use Rattle.dfdl_terms.specs.declared.slots.Slot.{Slot}
+use Rattle.dfdl_terms.specs.Rows.{Table}
 use Rattle.dfdl_grammar.specs.declared.end.End.{End}
 use Rattle.dfdl_grammar.specs.declared.end.End.TheVariants.{Done, Failed, Stopped}
 use Rattle.dfdl_grammar.specs.declared.end.Halt.TheVariants.{Limit}
 use Rattle.dfdl_grammar.specs.declared.limits.Limits.{Limits}
 use Rattle.dfdl_grammar.specs.States.{Input, State, anchor}
-use Rattle.dfdl_grammar.specs.Outcomes.{Outcome, ended, spend}
+use Rattle.dfdl_grammar.specs.Outcomes.{Outcome, ended, spend, then_do}
 use Rattle.dfdl_grammar.specs.Delimiters.{lists_of, markup, separator, sought_among}
+use Rattle.dfdl_grammar.specs.Occurrences.{occurring}
 use Rattle.dfdl_grammar.specs.Marks.{back, closed, is_settled, marked, pointed}
+use Rattle.dfdl_grammar.specs.Questions.{asked_count, question_at}
 
--- what a sequence with separators has besides its slots: the meaning of the rows inside it, where its separators stand, and whether
--- initiators resolve the points of its slots
+-- what a sequence with separators has besides its slots: the tables, the meaning of the rows inside it, where its separators stand, and
+-- whether initiators resolve the points of its slots
 pub record Sequence : Type 0 where
   pub input : Input
-  pub delimiters : List Delimiters
+  pub table : Table
   pub child : ℕ → State → Outcome
   pub position : SeparatorPosition
   pub initiated : Bool
@@ -137,11 +140,11 @@ peek input question next s =
 
 -- whether the slot is empty whose content comes next
 abbrev pub ask_empty : Sequence → State → Ask Bool
-ask_empty sequence s = is_empty_at (lists_of sequence.delimiters (markup s)) s.at s.stop
+ask_empty sequence s = is_empty_at (lists_of sequence.table.delimiters (markup s)) s.at s.stop
 
 -- whether a separator of the sequence comes next
 abbrev pub ask_separator : Sequence → State → Ask Bool
-ask_separator sequence s = separator_follows (lists_of sequence.delimiters (markup s)) (length (markup s) - 1) s.at s.stop
+ask_separator sequence s = separator_follows (lists_of sequence.table.delimiters (markup s)) (length (markup s) - 1) s.at s.stop
 
 -- a slot that was there, whose content began at this bit
 abbrev pub taken : Progress → ℕ → Course
@@ -191,7 +194,7 @@ decide sequence turn here course content blank after Drop o =
 decide sequence turn here course content blank after EndArray o = spend o.tally (turn.none (untaken course after) (taken_back here o.state))
 decide sequence turn here course content blank after (Fail fault) o = record o { state = closed_slot here o.state }
 decide sequence turn here course content blank after TakeSeparator o =
-    let closing : Outcome = separator sequence.input sequence.delimiters (if blank then emptied content o.state else o.state) in
+    let closing : Outcome = separator sequence.input sequence.table.delimiters (if blank then emptied content o.state else o.state) in
     spend o.tally (spend one_row (after_closing turn (untaken course after) content closing.end closing))
 decide sequence turn here course content blank after LookForSeparator o =
     let s : State = if blank then emptied content o.state else o.state in
@@ -215,7 +218,7 @@ after_content sequence turn course content empty (Stopped cause quantity) o = o
 -- the occurrence of a slot, which is empty or not; its marks are open where it is tried
 abbrev pub occur : Sequence → Turn → Course → Bool → State → Outcome
 occur sequence turn course empty s =
-    let o : Outcome = sequence.child turn.body s in after_content sequence turn course s.at empty o.end o
+    let o : Outcome = occurring (is_tried turn.rule) (sequence.child turn.body) s in after_content sequence turn course s.at empty o.end o
 
 -- the content of a slot begins: where its occurrence is tried, it is looked whether it is empty, and its marks are opened, unless they are open
 abbrev pub content : Sequence → Turn → Course → State → Outcome
@@ -244,7 +247,7 @@ after_separator sequence turn course (Stopped cause quantity) o = o
 -- a slot begins, by the first move in it
 abbrev pub begin : Sequence → Turn → Here → Course → Progress → SlotMove → State → Outcome
 begin sequence turn here course after TakeSeparator s =
-    let o : Outcome = separator sequence.input sequence.delimiters (if opens_before here then opened_slot sequence here s else s) in
+    let o : Outcome = separator sequence.input sequence.table.delimiters (if opens_before here then opened_slot sequence here s else s) in
     spend one_row (after_separator sequence turn (untaken course after) o.end o)
 begin sequence turn here course after Parse s = content sequence turn (untaken course after) s
 begin sequence turn here course after EndArray s = turn.none (untaken course after) s
@@ -269,12 +272,27 @@ abbrev pub ended_by : SlotMove → Course → State → Outcome
 ended_by (Fail fault) course s = ended (Failed EmptyTrailingSlot course.last) s
 ended_by move course s = ended Done s
 
--- the slots of some rows: those that are required, and then those that are tried
+-- the slots of one row: so many that are required, and then those that are tried
+abbrev pub in_row : Sequence → Slot → ℕ → Tail → Tail
+in_row sequence own least next = times sequence false false own.body least (times sequence true own.is_parsed own.body own.further next)
+
+-- The same, where a question may tell how many are required. It is asked where the first of them would begin, before its separator, and costs
+-- what a row does.
+abbrev pub told_row : Sequence → Slot → Option ℕ → Tail → Tail
+told_row sequence own None next course s = in_row sequence own own.least next course s
+told_row sequence own (Some question) next course s =
+    spend one_row (asked_count sequence.table (start.Inside s.inside) NegativeCount (λ count after. in_row sequence own count next course after)
+    (question_at sequence.table question) s)
+
+-- One row and what follows it. A row without a slot is there once, without a separator, and the sequence has come no further behind it.
+abbrev pub then_slots : Sequence → Slot → Tail → Tail
+then_slots sequence own next course s =
+    if own.is_slotless then then_do (sequence.child own.body s) (next course) else told_row sequence own own.question next course s
+
+-- the slots of some rows, one row after another
 abbrev pub in_slots : Sequence → List Slot → Tail
 in_slots sequence [] course s = ended_by (ending course.progress) course s
-in_slots sequence (own ∷ slots) course s =
-    times sequence false false own.body own.least
-    (times sequence true own.is_parsed own.body own.further (in_slots sequence slots)) course s
+in_slots sequence (own ∷ slots) course s = then_slots sequence own (in_slots sequence slots) course s
 
 -- the slots of a sequence of this policy
 abbrev pub separated : Sequence → SeparatorSuppressionPolicy → List Slot → State → Outcome

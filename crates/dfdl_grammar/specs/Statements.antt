@@ -23,7 +23,7 @@ use Rattle.dfdl_report.specs.declared.cause.VariableCause.TheVariants as variabl
 use Rattle.dfdl_terms.specs.Arrays.{item_marks}
 use Rattle.dfdl_terms.specs.Rows.{Table}
 use Rattle.dfdl_terms.specs.declared.statement.Statement.{Statement}
-use Rattle.dfdl_terms.specs.declared.statement.Statement.TheVariants.{Pattern, Expression, Setting, Calculation, Question}
+use Rattle.dfdl_terms.specs.declared.statement.Statement.TheVariants.{Pattern, Expression, Setting, Calculation, Question, Opening}
 use Rattle.dfdl_terms.specs.declared.statement.Statements.{Statements}
 use Rattle.dfdl_looks.specs.Asks.{Told}
 use Rattle.dfdl_grammar.specs.declared.end.End.{End}
@@ -36,10 +36,10 @@ use Rattle.dfdl_grammar.specs.Leaves.{default_find, land}
 use Rattle.dfdl_grammar.specs.Marks.{resolved}
 use Rattle.dfdl_grammar.specs.Tests.{test, tested}
 
--- what stands around an expression that begins there; no length of an element is known
+-- what stands around an expression that begins there
 abbrev pub around_at : Table → Start → State → Around
 around_at table start s =
-    around (record { names = table.names; nodes = s.nodes; text = s.text; lengths = []; marks = item_marks table.rows; start = start }) s.variables
+    around (record { names = table.names; nodes = s.nodes; text = s.text; marks = item_marks table.rows; start = start }) s.variables
 
 -- what an expression gives
 abbrev pub evaluated : Table → Start → List Node → State → Evaluated
@@ -91,6 +91,7 @@ stated limits table start number (Some (Setting setting)) s =
 stated limits table start number (Some (Calculation calculation)) s =
     calculated limits (taken calculation.kind (evaluated table start calculation.expression s)) (with_reads table start calculation.expression s)
 stated limits table start number (Some (Question question)) s = ended Done s
+stated limits table start number (Some (Opening opening)) s = ended Done s
 
 -- where the expression of a statement begins that has a row: that of a calculated value at the open element, others at a group in it
 abbrev pub start_of : Option Statement → State → Start
@@ -138,6 +139,7 @@ reconsidered table start (Some (Expression asked)) s =
 reconsidered table start (Some (Setting setting)) s = s
 reconsidered table start (Some (Calculation calculation)) s = s
 reconsidered table start (Some (Question question)) s = s
+reconsidered table start (Some (Opening opening)) s = s
 
 -- the discriminators among so many statements from one on
 unfoldable pub reconsidered_from : Table → Start → ℕ → ℕ → State → State

@@ -1,7 +1,10 @@
 -- What is known while data are parsed. 'Parsing Algorithm'.
-use Rattle.std.specs.Prelude.{ℕ, ◌/◌, List, [], ◌∷◌, if◌then◌else◌}
+use Rattle.std.specs.Prelude.{ℕ, ◌/◌, Bool, true, false, List, [], ◌∷◌, if◌then◌else◌}
+use Rattle.std.specs.List.{count_by}
 use Rattle.dfdl_vars.specs.Kept.{Kept, opened}
 use Rattle.dfdl_terms.specs.Rows.{Table}
+use Rattle.dfdl_terms.specs.declared.row.Row.{Row}
+use Rattle.dfdl_terms.specs.declared.row.Row.TheVariants.{Instance}
 use Rattle.dfdl_region.specs.declared.node.Node.{Node}
 use Rattle.dfdl_grammar.specs.declared.instead.Instead.{Instead}
 use Rattle.dfdl_grammar.specs.declared.instead.Instead.TheVariants.{Nothing}
@@ -33,7 +36,16 @@ pub record State : Type 0 where
 abbrev pub no_box : ℕ
 no_box = 18446744073709551615
 
--- the state at the front of the data: each variable begins with its default
+-- whether a row opens an instance of a variable
+abbrev pub is_instance : Row → Bool
+is_instance (Instance statement body) = true
+is_instance _ = false
+
+-- how many rows do so; rows nest, so no more such instances are open at once
+unfoldable pub instances_within : List Row → ℕ
+instances_within rows = count_by is_instance rows
+
+-- the state at the front of the data: each variable begins with its default, and no instance is open but those of the definitions
 abbrev pub front : Table → State
 front table = record {
   at = 0;
@@ -45,7 +57,7 @@ front table = record {
   lists = [];
   hidden = 0;
   marks = [];
-  variables = opened table.variables [] 0;
+  variables = opened table.variables [] (instances_within table.rows);
 }
 
 -- the bit of the outermost mark that isn't resolved, or another bit where there is none

@@ -8,4 +8,6 @@ pub enum Instead {
     Nil(u32),
     /// The empty representation: the primitive of this number in the tables.
     Empty(u32),
+    /// Nothing, and the element that begins next is an occurrence that is tried, which never takes a default.
+    Tried,
 }

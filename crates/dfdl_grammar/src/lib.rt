@@ -4,6 +4,7 @@
 //! The map of the grammar, one file of specs/ for each subject of the standard:
 //! - States: what is known while data are parsed ('Parsing Algorithm').
 //! - Outcomes: what a row comes to, and how outcomes are put together ('Parsing Algorithm').
+//! - Spans: how long elements are in the data ('DFDL Expression Language').
 //! - Marks: a place that parsing can go back to ('Parsing Algorithm').
 //! - Leaves: what a simple element's content is read as ('Simple Types').
 //! - Octets: the bytes that stand in the data from a bit on ('Simple Types').
@@ -19,6 +20,7 @@
 //! - Choices: branches are tried from one place ('Choices').
 //! - Occurrences: times of an element that are tried, one after another ('Arrays and Optional Elements').
 //! - Statements: tests of expressions, settings of variables and calculated values ('DFDL Schema Component Model').
+//! - Instances: instances of variables that are open while a component is parsed ('DFDL Expression Language').
 //! - Tests: patterns that have to match at the begin of a component ('DFDL Schema Component Model').
 //! - Questions: a length, a number of occurrences, and the key of a choice, which expressions give ('Lengths', 'Arrays and Optional
 //!   Elements', 'Choices').
@@ -34,8 +36,10 @@ pub mod instead;
 pub mod laws;
 pub mod limits;
 pub mod mark;
+pub mod span;
 
 pub use end::{End, Halt};
 pub use instead::Instead;
 pub use limits::Limits;
 pub use mark::Mark;
+pub use span::Span;

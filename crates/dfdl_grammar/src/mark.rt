@@ -1,4 +1,4 @@
-use dfdl_region::Content;
+use dfdl_region::{Content, Lengths};
 use dfdl_vars::VarMark;
 
 /// A place that parsing can go back to, and what was known there ('Parsing Algorithm').
@@ -22,6 +22,8 @@ pub struct Mark {
     pub inside: u32,
     /// what that element has
     pub content: Content,
+    /// how long that element is, as far as that was known
+    pub lengths: Option<Lengths>,
     /// what was kept of the variables
     pub variables: VarMark,
 }

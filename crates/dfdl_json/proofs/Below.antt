@@ -4,7 +4,7 @@ use Rattle.std.specs.List.{flat_map}
 use Rattle.std.proofs.lemmas.Bool.{cases_lt}
 use Rattle.std.proofs.lemmas.List.Elements.{All-cons, All-nil, All-append}
 use Rattle.dfdl_terms.specs.declared.row.Row.{Row}
-use Rattle.dfdl_terms.specs.declared.row.Row.TheVariants.{Leaf, Elem, Group, Skip, Align, Initiator, Terminator, Separator, Scope, Boxed, PrefixedLeaf, PrefixedBox, MeasuredLeaf, MeasuredBox, Repeat, Counted, Optional, Choice, Dispatch, Statement, Concluded, Hidden, Separated}
+use Rattle.dfdl_terms.specs.declared.row.Row.TheVariants.{Leaf, Elem, Group, Skip, Align, Initiator, Terminator, Separator, Scope, Boxed, PrefixedLeaf, PrefixedBox, MeasuredLeaf, MeasuredBox, Repeat, Counted, Optional, Choice, Dispatch, Statement, Concluded, Hidden, Spanned, Instance, Separated}
 use Rattle.dfdl_terms.specs.Rows.{IsElementRow, Table}
 use Rattle.dfdl_json.specs.ByRows.{below}
 use Rattle.dfdl_json.specs.Children.{bodies_of, declared_by, elements_in, keyed}
@@ -95,6 +95,12 @@ by_kind t row (Some (Concluded behind body)) is each =
 by_kind t row (Some (Hidden body)) is each =
     let inside = one_below t row body each in
     record { within = inside.within; few = omega (arith, inside.few); elements = inside.elements }
+by_kind t row (Some (Spanned body)) is each =
+    let inside = one_below t row body each in
+    record { within = inside.within; few = omega (arith, inside.few); elements = inside.elements }
+by_kind t row (Some (Instance statement body)) is each =
+    let inside = one_below t row body each in
+    record { within = inside.within; few = omega (arith, inside.few); elements = inside.elements }
 by_kind t row (Some (Separated policy position initiated slots)) is each =
     let all = all_below t row (below declared_by [] t.rows row) (below steps_by 0 t.rows row) (λ c. one_below t row c each) (bodies_of slots) in
     record { within = all.within; few = omega (arith, all.few); elements = all.elements }
@@ -140,6 +146,8 @@ some_by inside row (Some (Dispatch question keys)) = omega arith
 some_by inside row (Some (Statement statement)) = omega arith
 some_by inside row (Some (Concluded behind body)) = omega arith
 some_by inside row (Some (Hidden body)) = omega arith
+some_by inside row (Some (Spanned body)) = omega arith
+some_by inside row (Some (Instance statement body)) = omega arith
 some_by inside row (Some (Separated policy position initiated slots)) = omega arith
 some_by inside row (Some (Elem name simple tried behind body)) = omega arith
 some_by inside row (Some (Group children)) = omega arith

@@ -15,7 +15,7 @@ use Rattle.dfdl_terms.specs.declared.keys.Key.{Key}
 use Rattle.dfdl_terms.specs.declared.slots.Slot.{Slot}
 use Rattle.dfdl_separators.specs.declared.policy.SeparatorPosition.{SeparatorPosition}
 use Rattle.dfdl_separators.specs.declared.policy.SeparatorSuppressionPolicy.{SeparatorSuppressionPolicy}
-use Rattle.dfdl_terms.specs.declared.row.Row.TheVariants.{Leaf, Elem, Group, Skip, Align, Initiator, Terminator, Separator, Scope, Boxed, PrefixedLeaf, PrefixedBox, MeasuredLeaf, MeasuredBox, Repeat, Counted, Optional, Choice, Dispatch, Statement, Concluded, Hidden, Separated}
+use Rattle.dfdl_terms.specs.declared.row.Row.TheVariants.{Leaf, Elem, Group, Skip, Align, Initiator, Terminator, Separator, Scope, Boxed, PrefixedLeaf, PrefixedBox, MeasuredLeaf, MeasuredBox, Repeat, Counted, Optional, Choice, Dispatch, Statement, Concluded, Hidden, Spanned, Instance, Separated}
 use Rattle.dfdl_terms.specs.declared.event.Event.TheVariants.{Start, End}
 use Rattle.dfdl_terms.specs.Rows.{Table}
 use Rattle.dfdl_json.specs.ByRows.{below}
@@ -123,6 +123,12 @@ module _ (t : Table) (row : ℕ) (content : Data) (around : Names) where
 
   pub hidden_says : (body : ℕ) → slice_get t.rows row ≡ Some (Hidden body) → findings t row content around ≡ []
   hidden_says body is = ap (λ f. f content around) (row_is (findings_by t) (λ c a. []) t.rows row (Some (Hidden body)) is)
+
+  pub spanned_says : (body : ℕ) → slice_get t.rows row ≡ Some (Spanned body) → findings t row content around ≡ []
+  spanned_says body is = ap (λ f. f content around) (row_is (findings_by t) (λ c a. []) t.rows row (Some (Spanned body)) is)
+
+  pub instance_says : (statement body : ℕ) → slice_get t.rows row ≡ Some (Instance statement body) → findings t row content around ≡ []
+  instance_says statement body is = ap (λ f. f content around) (row_is (findings_by t) (λ c a. []) t.rows row (Some (Instance statement body)) is)
 
   pub separated_says : (policy : SeparatorSuppressionPolicy) (position : SeparatorPosition) (initiated : Bool) (slots : List Slot)
       → slice_get t.rows row ≡ Some (Separated policy position initiated slots) → findings t row content around ≡ []

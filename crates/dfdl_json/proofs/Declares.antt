@@ -15,7 +15,7 @@ use Rattle.dfdl_terms.specs.declared.slots.Slot.{Slot}
 use Rattle.dfdl_separators.specs.declared.policy.SeparatorPosition.{SeparatorPosition}
 use Rattle.dfdl_separators.specs.declared.policy.SeparatorSuppressionPolicy.{SeparatorSuppressionPolicy}
 use Rattle.dfdl_terms.specs.declared.row.Row.{Row}
-use Rattle.dfdl_terms.specs.declared.row.Row.TheVariants.{Leaf, Elem, Group, Skip, Align, Initiator, Terminator, Separator, Scope, Boxed, PrefixedLeaf, PrefixedBox, MeasuredLeaf, MeasuredBox, Repeat, Counted, Optional, Choice, Dispatch, Statement, Concluded, Hidden, Separated}
+use Rattle.dfdl_terms.specs.declared.row.Row.TheVariants.{Leaf, Elem, Group, Skip, Align, Initiator, Terminator, Separator, Scope, Boxed, PrefixedLeaf, PrefixedBox, MeasuredLeaf, MeasuredBox, Repeat, Counted, Optional, Choice, Dispatch, Statement, Concluded, Hidden, Spanned, Instance, Separated}
 use Rattle.dfdl_terms.specs.Rows.{Table, ChildrenBelow}
 use Rattle.dfdl_json.specs.ByRows.{below}
 use Rattle.dfdl_json.specs.Children.{bodies_of, declared_by, elements_in, keyed}
@@ -91,6 +91,14 @@ module _ (t : Table) (row : ℕ) where
   pub hidden_declares : (body : ℕ) → slice_get t.rows row ≡ Some (Hidden body) → body < row → elements_in t row ≡ elements_in t body
   hidden_declares body is less =
       row_is declared_by [] t.rows row (Some (Hidden body)) is ∙ below_is declared_by [] t.rows row body less
+
+  pub spanned_declares : (body : ℕ) → slice_get t.rows row ≡ Some (Spanned body) → body < row → elements_in t row ≡ elements_in t body
+  spanned_declares body is less =
+      row_is declared_by [] t.rows row (Some (Spanned body)) is ∙ below_is declared_by [] t.rows row body less
+
+  pub instance_declares : (statement body : ℕ) → slice_get t.rows row ≡ Some (Instance statement body) → body < row → elements_in t row ≡ elements_in t body
+  instance_declares statement body is less =
+      row_is declared_by [] t.rows row (Some (Instance statement body)) is ∙ below_is declared_by [] t.rows row body less
 
   pub separated_declares : (policy : SeparatorSuppressionPolicy) (position : SeparatorPosition) (initiated : Bool) (slots : List Slot)
       → slice_get t.rows row ≡ Some (Separated policy position initiated slots) → All (λ b. b < row) (bodies_of slots)
@@ -201,6 +209,14 @@ module _ (t : Table) (row : ℕ) where
   hidden_steps body is less =
       row_is steps_by 0 t.rows row (Some (Hidden body)) is ∙ ap (λ n. 1 + n) (below_is steps_by 0 t.rows row body less)
 
+  pub spanned_steps : (body : ℕ) → slice_get t.rows row ≡ Some (Spanned body) → body < row → steps_of t row ≡ 1 + steps_of t body
+  spanned_steps body is less =
+      row_is steps_by 0 t.rows row (Some (Spanned body)) is ∙ ap (λ n. 1 + n) (below_is steps_by 0 t.rows row body less)
+
+  pub instance_steps : (statement body : ℕ) → slice_get t.rows row ≡ Some (Instance statement body) → body < row → steps_of t row ≡ 1 + steps_of t body
+  instance_steps statement body is less =
+      row_is steps_by 0 t.rows row (Some (Instance statement body)) is ∙ ap (λ n. 1 + n) (below_is steps_by 0 t.rows row body less)
+
   pub separated_steps : (policy : SeparatorSuppressionPolicy) (position : SeparatorPosition) (initiated : Bool) (slots : List Slot)
       → slice_get t.rows row ≡ Some (Separated policy position initiated slots) → All (λ b. b < row) (bodies_of slots)
       → steps_of t row ≡ 1 + total (map (steps_of t) (bodies_of slots))
@@ -260,6 +276,12 @@ below_choice bound r branches initiated is below_row = subst (λ (x : Row). Chil
 
 pub below_hidden : (bound : ℕ) (r : Row) (body : ℕ) → r ≡ Hidden body → ChildrenBelow bound r → body < bound
 below_hidden bound r body is below_row = subst (λ (x : Row). ChildrenBelow bound x) is below_row
+
+pub below_spanned : (bound : ℕ) (r : Row) (body : ℕ) → r ≡ Spanned body → ChildrenBelow bound r → body < bound
+below_spanned bound r body is below_row = subst (λ (x : Row). ChildrenBelow bound x) is below_row
+
+pub below_instance : (bound : ℕ) (r : Row) (statement body : ℕ) → r ≡ Instance statement body → ChildrenBelow bound r → body < bound
+below_instance bound r statement body is below_row = subst (λ (x : Row). ChildrenBelow bound x) is below_row
 
 pub all_bodies : (bound : ℕ) (slots : List Slot) → All (λ slot. slot.body < bound) slots → All (λ b. b < bound) (bodies_of slots)
 all_bodies bound [] all = All-nil (λ b. b < bound)

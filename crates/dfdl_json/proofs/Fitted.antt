@@ -11,7 +11,7 @@ use Rattle.dfdl_value.specs.declared.value.Value.{Value}
 use Rattle.dfdl_terms.specs.declared.representations.Representations.{Representations}
 use Rattle.dfdl_terms.specs.declared.statement.Statements.{Statements}
 use Rattle.dfdl_terms.specs.declared.row.Row.{Row}
-use Rattle.dfdl_terms.specs.declared.row.Row.TheVariants.{Leaf, Elem, Group, Skip, Align, Initiator, Terminator, Separator, Scope, Boxed, PrefixedLeaf, PrefixedBox, MeasuredLeaf, MeasuredBox, Repeat, Counted, Optional, Choice, Dispatch, Statement, Concluded, Hidden, Separated}
+use Rattle.dfdl_terms.specs.declared.row.Row.TheVariants.{Leaf, Elem, Group, Skip, Align, Initiator, Terminator, Separator, Scope, Boxed, PrefixedLeaf, PrefixedBox, MeasuredLeaf, MeasuredBox, Repeat, Counted, Optional, Choice, Dispatch, Statement, Concluded, Hidden, Spanned, Instance, Separated}
 use Rattle.dfdl_terms.specs.declared.event.Event.{Event}
 use Rattle.dfdl_terms.specs.declared.event.Event.TheVariants.{Start, End}
 use Rattle.dfdl_terms.specs.Rows.{HasElementLast, IsElementRow, Nests, Table}
@@ -120,6 +120,8 @@ fits_by t nests row each (Some (Dispatch question keys)) is content around eleme
 fits_by t nests row each (Some (Statement statement)) is content around element none = absurd (subst IsElementRow is element)
 fits_by t nests row each (Some (Concluded behind body)) is content around element none = absurd (subst IsElementRow is element)
 fits_by t nests row each (Some (Hidden body)) is content around element none = absurd (subst IsElementRow is element)
+fits_by t nests row each (Some (Spanned body)) is content around element none = absurd (subst IsElementRow is element)
+fits_by t nests row each (Some (Instance statement body)) is content around element none = absurd (subst IsElementRow is element)
 fits_by t nests row each (Some (Separated policy position initiated slots)) is content around element none = absurd (subst IsElementRow is element)
 fits_by t nests row each (Some (Group children)) is content around element none = absurd (subst IsElementRow is element)
 fits_by t nests row each (Some (Elem name (Some kind) tried behind body)) is content around element none =

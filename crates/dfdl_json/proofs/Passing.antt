@@ -8,7 +8,7 @@ use Rattle.std.proofs.lemmas.List.Elements.{All-cons, All-nil, All-head, All-tai
 use Rattle.std.proofs.lemmas.List.Folds.{list_any_more, list_any-append}
 use Rattle.std.proofs.lemmas.Option.{get_or_from_slice_get}
 use Rattle.dfdl_terms.specs.declared.row.Row.{Row}
-use Rattle.dfdl_terms.specs.declared.row.Row.TheVariants.{Leaf, Elem, Group, Skip, Align, Initiator, Terminator, Separator, Scope, Boxed, PrefixedLeaf, PrefixedBox, MeasuredLeaf, MeasuredBox, Repeat, Counted, Optional, Choice, Dispatch, Statement, Concluded, Hidden, Separated}
+use Rattle.dfdl_terms.specs.declared.row.Row.TheVariants.{Leaf, Elem, Group, Skip, Align, Initiator, Terminator, Separator, Scope, Boxed, PrefixedLeaf, PrefixedBox, MeasuredLeaf, MeasuredBox, Repeat, Counted, Optional, Choice, Dispatch, Statement, Concluded, Hidden, Spanned, Instance, Separated}
 use Rattle.dfdl_terms.specs.Arrays.{is_marked}
 use Rattle.dfdl_terms.specs.Rows.{ChildrenBelow, Table}
 use Rattle.dfdl_json.specs.Children.{bodies_of, elements_in, keyed}
@@ -336,6 +336,10 @@ row_passes t k marks less (Separated policy position initiated slots) is below =
 row_passes t k marks less (Hidden body) is below =
     let same = declares.hidden_declares t k body is below in
     hidden_gone t k (Hidden body) marks (body ∷ []) less (one_under k body below) (with_body t k body same) (λ c. ap (list_any (eqb c)) (sym same))
+row_passes t k marks less (Spanned body) is below =
+    through t k (Spanned body) marks body less below (declares.spanned_declares t k body is below) (λ c. refl)
+row_passes t k marks less (Instance statement body) is below =
+    through t k (Instance statement body) marks body less below (declares.instance_declares t k statement body is below) (λ c. refl)
 row_passes t k marks less (Elem name simple tried behind body) is below =
     stays t k (Elem name simple tried behind body) marks (λ c. refl) (λ marked. declares.elem_declares t k name simple tried behind body is)
 

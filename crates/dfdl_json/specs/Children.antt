@@ -4,7 +4,7 @@ use Rattle.std.specs.List.{flat_map}
 use Rattle.dfdl_terms.specs.declared.slots.Slot.{Slot}
 use Rattle.dfdl_terms.specs.declared.keys.Key.{Key}
 use Rattle.dfdl_terms.specs.declared.row.Row.{Row}
-use Rattle.dfdl_terms.specs.declared.row.Row.TheVariants.{Leaf, Elem, Group, Skip, Align, Initiator, Terminator, Separator, Scope, Boxed, PrefixedLeaf, PrefixedBox, MeasuredLeaf, MeasuredBox, Repeat, Counted, Optional, Choice, Dispatch, Statement, Concluded, Hidden, Separated}
+use Rattle.dfdl_terms.specs.declared.row.Row.TheVariants.{Leaf, Elem, Group, Skip, Align, Initiator, Terminator, Separator, Scope, Boxed, PrefixedLeaf, PrefixedBox, MeasuredLeaf, MeasuredBox, Repeat, Counted, Optional, Choice, Dispatch, Statement, Concluded, Hidden, Spanned, Instance, Separated}
 use Rattle.dfdl_terms.specs.Rows.{Table}
 use Rattle.dfdl_json.specs.ByRows.{by_rows}
 
@@ -31,8 +31,8 @@ keyed keys = map (λ key. key.body) keys
 
 -- The elements that a row declares, where `inside` has those of the rows below it: an element declares itself, a
 -- group what its children declare, a choice what its branches do, also by keys, slots what their rows do, and a scope, a box, with or without
--- a prefix or a measure, a hidden row, a repetition, tried, counted or neither, and a row behind which statements are done what its body
--- declares. No other row declares anything.
+-- a prefix or a measure, a hidden row, a content without a box, an open instance, a repetition, tried, counted or neither, and a row behind
+-- which statements are done what its body declares. No other row declares anything.
 abbrev pub declared_by : (ℕ → List ℕ) → ℕ → Option Row → List ℕ
 declared_by inside row (Some (Elem name simple tried behind body)) = row ∷ []
 declared_by inside row (Some (Group children)) = flat_map inside children
@@ -56,6 +56,8 @@ declared_by inside row (Some (Dispatch question keys)) = flat_map inside (keyed 
 declared_by inside row (Some (Statement statement)) = []
 declared_by inside row (Some (Concluded behind body)) = inside body
 declared_by inside row (Some (Hidden body)) = inside body
+declared_by inside row (Some (Spanned body)) = inside body
+declared_by inside row (Some (Instance statement body)) = inside body
 declared_by inside row (Some (Separated policy position initiated slots)) = flat_map inside (bodies_of slots)
 declared_by inside row None = []
 

@@ -13,7 +13,7 @@ use Rattle.dfdl_report.specs.declared.cause.InfosetCause.{InfosetCause}
 use Rattle.dfdl_report.specs.declared.cause.InfosetCause.TheVariants.{RootExpected, UnknownMember, ObjectExpected, StringExpected, NotAValue, NullNotAllowed}
 use Rattle.dfdl_terms.specs.Rows.{Table}
 use Rattle.dfdl_terms.specs.declared.row.Row.{Row}
-use Rattle.dfdl_terms.specs.declared.row.Row.TheVariants.{Leaf, Elem, Group, Skip, Align, Initiator, Terminator, Separator, Scope, Boxed, PrefixedLeaf, PrefixedBox, MeasuredLeaf, MeasuredBox, Repeat, Counted, Optional, Choice, Dispatch, Statement, Concluded, Hidden, Separated}
+use Rattle.dfdl_terms.specs.declared.row.Row.TheVariants.{Leaf, Elem, Group, Skip, Align, Initiator, Terminator, Separator, Scope, Boxed, PrefixedLeaf, PrefixedBox, MeasuredLeaf, MeasuredBox, Repeat, Counted, Optional, Choice, Dispatch, Statement, Concluded, Hidden, Spanned, Instance, Separated}
 use Rattle.dfdl_terms.specs.declared.event.Event.{Event}
 use Rattle.dfdl_terms.specs.declared.event.Event.TheVariants.{Start, Simple as SimpleElement, End}
 use Rattle.dfdl_json.specs.ByRows.{by_rows}
@@ -129,6 +129,8 @@ findings_by t inside row (Some (Dispatch question keys)) content around = []
 findings_by t inside row (Some (Statement statement)) content around = []
 findings_by t inside row (Some (Concluded behind body)) content around = []
 findings_by t inside row (Some (Hidden body)) content around = []
+findings_by t inside row (Some (Spanned body)) content around = []
+findings_by t inside row (Some (Instance statement body)) content around = []
 findings_by t inside row (Some (Separated policy position initiated slots)) content around = []
 findings_by t inside row None content around = []
 

@@ -1,7 +1,7 @@
 -- Mirror for the prover: how marks go from rows to those that stand in their place.
 use Rattle.std.specs.Prelude.{ℕ, Bool, true, false, if◌then◌else◌, List, [], ◌∷◌, set}
 use Rattle.dfdl_terms.specs.declared.row.Row.{Row}
-use Rattle.dfdl_terms.specs.declared.row.Row.TheVariants.{Elem, Group, Scope, Concluded, Boxed, PrefixedBox, MeasuredBox, Repeat, Counted, Optional, Choice, Dispatch, Hidden, Separated}
+use Rattle.dfdl_terms.specs.declared.row.Row.TheVariants.{Elem, Group, Scope, Concluded, Boxed, PrefixedBox, MeasuredBox, Repeat, Counted, Optional, Choice, Dispatch, Hidden, Spanned, Instance, Separated}
 use Rattle.dfdl_terms.specs.Arrays.{is_marked}
 use Rattle.dfdl_json.specs.Children.{bodies_of, keyed}
 
@@ -20,6 +20,8 @@ parts_in (Repeat count body) = body ∷ []
 parts_in (Counted question body) = body ∷ []
 parts_in (Optional most item initiated body) = body ∷ []
 parts_in (Hidden body) = body ∷ []
+parts_in (Spanned body) = body ∷ []
+parts_in (Instance statement body) = body ∷ []
 parts_in _ = []
 
 -- marks with those of these rows

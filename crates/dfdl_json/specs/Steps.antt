@@ -2,7 +2,7 @@
 use Rattle.std.specs.Prelude.{ℕ, ◌+◌, List, [], ◌∷◌, map, Option, None, Some}
 use Rattle.dfdl_terms.specs.Rows.{Table}
 use Rattle.dfdl_terms.specs.declared.row.Row.{Row}
-use Rattle.dfdl_terms.specs.declared.row.Row.TheVariants.{Leaf, Elem, Group, Skip, Align, Initiator, Terminator, Separator, Scope, Boxed, PrefixedLeaf, PrefixedBox, MeasuredLeaf, MeasuredBox, Repeat, Counted, Optional, Choice, Dispatch, Statement, Concluded, Hidden, Separated}
+use Rattle.dfdl_terms.specs.declared.row.Row.TheVariants.{Leaf, Elem, Group, Skip, Align, Initiator, Terminator, Separator, Scope, Boxed, PrefixedLeaf, PrefixedBox, MeasuredLeaf, MeasuredBox, Repeat, Counted, Optional, Choice, Dispatch, Statement, Concluded, Hidden, Spanned, Instance, Separated}
 use Rattle.dfdl_json.specs.ByRows.{by_rows}
 use Rattle.dfdl_json.specs.Children.{bodies_of, keyed}
 
@@ -35,6 +35,8 @@ steps_by inside row (Some (Dispatch question keys)) = 1 + total (map inside (key
 steps_by inside row (Some (Statement statement)) = 1
 steps_by inside row (Some (Concluded behind body)) = 1 + inside body
 steps_by inside row (Some (Hidden body)) = 1 + inside body
+steps_by inside row (Some (Spanned body)) = 1 + inside body
+steps_by inside row (Some (Instance statement body)) = 1 + inside body
 steps_by inside row (Some (Separated policy position initiated slots)) = 1 + total (map inside (bodies_of slots))
 steps_by inside row (Some (Group children)) = 1 + total (map inside children)
 

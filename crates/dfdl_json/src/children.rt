@@ -53,7 +53,8 @@ pub fn elements_in(alloc: Global, terms: &Terms, id: RowId) -> Result<Vec<RowId>
 }
 
 // An element is put behind the others, and the children of a group, the branches of a choice, the rows of slots, or the body of a scope,
-// a box, a hidden row, a repetition or a row behind which statements are done before the rows that are left.
+// a box, a hidden row, a content without a box, an open instance, a repetition or a row behind which statements are done before the rows
+// that are left.
 fn visit(
     terms: &Terms,
     row: RowId,
@@ -91,6 +92,8 @@ fn visit(
         Some(Row::Statement { .. }) => Ok(()),
         Some(Row::Concluded { body, .. }) => push_all(left, &[*body]),
         Some(Row::Hidden { body }) => push_all(left, &[*body]),
+        Some(Row::Spanned { body }) => push_all(left, &[*body]),
+        Some(Row::Instance { body, .. }) => push_all(left, &[*body]),
         Some(Row::Separated { slots, .. }) => push_slots(left, slots.as_slice()),
         None => Ok(()),
     }

@@ -92,6 +92,8 @@ fn mark_parts(id: RowId, row: &Row, marks: &mut Vec<bool>)
         Row::Counted { body, .. } => mark(marks, &[*body]),
         Row::Optional { body, .. } => mark(marks, &[*body]),
         Row::Hidden { body } => mark(marks, &[*body]),
+        Row::Spanned { body } => mark(marks, &[*body]),
+        Row::Instance { body, .. } => mark(marks, &[*body]),
         _ => {}
     }
 }

@@ -161,6 +161,8 @@ impl<'t, 'v> Reading<'t, 'v> {
             Some(Row::Statement { .. }) => Ok(()),
             Some(Row::Concluded { .. }) => Ok(()),
             Some(Row::Hidden { .. }) => Ok(()),
+            Some(Row::Spanned { .. }) => Ok(()),
+            Some(Row::Instance { .. }) => Ok(()),
             Some(Row::Separated { .. }) => Ok(()),
             None => Ok(()),
         }

@@ -13,7 +13,7 @@ use dfdl_forms::{BitOrder, ByteOrder, IntForm};
 use dfdl_region::{Content, Node};
 use dfdl_terms::{
     Event, LengthUnit, NameNumbers, Prefix, Primitive, Representations, Row, RowId, RowList,
-    Statements, Tables, Terms,
+    Statements, Tables, Terms, WhereTried,
 };
 use dfdl_value::{Simple, TextValue, Value};
 use std::alloc::{AllocError, Global};
@@ -36,8 +36,13 @@ fn form(bits: u32, kind: Simple) -> Primitive
 
 fn element(alloc: Global, name: &str, simple: Option<Simple>, body: u32) -> Result<Row, AllocError>
     ensures row { IfOk result (λ row. row
-        ≡ Elem name.now simple (record { nil = None; empty = None; refuses_empty = false; are_several = false })
-        (record { first = 0; count = 0 }) body) }
+        ≡ Elem name.now simple (record {
+          nil = None;
+          empty = None;
+          refuses_empty = false;
+          are_several = false;
+          where_tried = record { empty = None; refuses_empty = false; are_several = false };
+        }) (record { first = 0; count = 0 }) body) }
     ensures within { IfOk result (λ row. (named : Named) → NamesWithin named row) }
 {
     Ok(Row::Elem {
@@ -48,6 +53,11 @@ fn element(alloc: Global, name: &str, simple: Option<Simple>, body: u32) -> Resu
             empty: None,
             refuses_empty: false,
             are_several: false,
+            where_tried: WhereTried {
+                empty: None,
+                refuses_empty: false,
+                are_several: false,
+            },
         },
         behind: Statements { first: 0, count: 0 },
         body: RowId::new(body),
@@ -237,6 +247,7 @@ fn node(element: u32, parent: u32, content: Content) -> Node
         element: RowId::new(element),
         parent,
         content,
+        lengths: None,
     }
 }
 

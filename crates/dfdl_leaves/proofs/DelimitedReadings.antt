@@ -20,12 +20,12 @@ use Rattle.dfdl_escapes.specs.Reads.{IsRead, ending_shown}
 use Rattle.dfdl_escapes.specs.Steps.{step_at}
 use Rattle.dfdl_grammar.specs.Delimited.{first_step, scanned, scanned_as, scanned_from}
 use Rattle.dfdl_grammar.specs.Framing.{aligned}
-use Rattle.dfdl_grammar.specs.Leaves.{Find, content_find, default_by_step, delimited_find}
+use Rattle.dfdl_grammar.specs.Leaves.{Find, kept_find, default_by_step, delimited_find}
 use Rattle.dfdl_leaves.specs.declared.leaf.Found.{Found}
 use Rattle.dfdl_leaves.specs.declared.leaf.Scratch.{Scratch}
 use Rattle.dfdl_leaves.specs.Readings.{Answers, IsWithin, found_shown}
 use Rattle.dfdl_leaves.specs.Strings.{made_of}
-use Rattle.dfdl_leaves.proofs.Ends.{AtEnd, content-at, ends-found}
+use Rattle.dfdl_leaves.proofs.Ends.{AtEnd, kept-at, ends-found}
 use Rattle.dfdl_leaves.proofs.Made.{made_read}
 
 module _ (look : ℕ → Seen) (lists : List Opened) (scan : ScanForm) (bit stop : ℕ) (form : Form) (begin : Stand)
@@ -63,9 +63,9 @@ module _ (look : ℕ → Seen) (lists : List Opened) (scan : ScanForm) (bit stop
       two.reached two.looks two.far there
 
 -- what characters before a byte are found as lies in the bytes before it
-pub found-before : (content : TextContent) (characters : List ℕ) (byte last : ℕ) (scratch : Scratch) (found : Found) → byte ≤ last
-    → found_shown scratch found ≡ Told (content_find content characters (8 * byte)) → IsWithin found last
-found-before content characters byte last scratch found few shown =
+pub found-before : (form : TextForm) (characters : List ℕ) (byte last : ℕ) (scratch : Scratch) (found : Found) → byte ≤ last
+    → found_shown scratch found ≡ Told (kept_find form (8 * byte) characters) → IsWithin found last
+found-before form characters byte last scratch found few shown =
     ends-found last scratch found
     (subst (λ (r : Reached Find). AtEnd (λ e. e ≤ 8 * last) r) (sym shown)
-    (content-at (λ e. e ≤ 8 * last) content characters (8 * byte) (omega arith)))
+    (kept-at (λ e. e ≤ 8 * last) form (8 * byte) characters (omega arith)))

@@ -13,6 +13,7 @@ use Rattle.dfdl_terms.specs.declared.row.Primitive.TheVariants.{Octets}
 use Rattle.dfdl_looks.specs.Asks.{Ask, Answer, Told, ask}
 use Rattle.dfdl_looks.specs.Tallies.{nothing}
 use Rattle.dfdl_grammar.specs.Leaves.{Find, Fails, FindsOctets, field, octets}
+use Rattle.dfdl_grammar.specs.Spans.{vacant}
 use Rattle.dfdl_grammar.specs.Octets.{octet_at, octets_from}
 use Rattle.dfdl_leaves.specs.declared.leaf.Found.TheVariants.{Octets as HasOctets, Fails as HasFailed}
 use Rattle.dfdl_leaves.specs.declared.leaf.Glance.{Glance}
@@ -52,7 +53,7 @@ one-more order bytes before at count items octet few is all =
 module _ (look : ℕ → Seen) (form : OctetForm) (bit : ℕ) (scratch : Scratch) where
   -- the program, by its two tests
   abbrev by_tests : Bool → Bool → Ask Find
-  by_tests none whole = cond none (Answer (FindsOctets [] bit)) (cond whole (field (Octets form) bit) (Answer (Fails NotFilled)))
+  by_tests none whole = cond none (Answer (FindsOctets [] (vacant bit))) (cond whole (field (Octets form) bit) (Answer (Fails NotFilled)))
 
   abbrev Is : Ask Find → Glance → ℕ → Type 0
   Is program glance looks = Answers (ask look program nothing) scratch glance looks
@@ -65,10 +66,10 @@ module _ (look : ℕ → Seen) (form : OctetForm) (bit : ℕ) (scratch : Scratch
 
   -- a box without bits has no bytes
   pub empty_read : form.bits ≡ 0 → scratch.octets.items ≡ [] → (looks : ℕ) → looks ≡ 0
-      → Is (octets form bit) (record { found = HasOctets bit; far = 0 }) looks
+      → Is (octets form bit) (record { found = HasOctets (vacant bit); far = 0 }) looks
   empty_read none empty looks cost =
-      at-tests true (nat_eq (form.bits % 8) 0) (grind (arith, nat_tests)) refl (record { found = HasOctets bit; far = 0 }) looks
-      (record { reached = ap (λ (bytes : List ℕ). Told (FindsOctets bytes bit)) (sym empty); looks = sym cost; far = refl })
+      at-tests true (nat_eq (form.bits % 8) 0) (grind (arith, nat_tests)) refl (record { found = HasOctets (vacant bit); far = 0 }) looks
+      (record { reached = ap (λ (bytes : List ℕ). Told (FindsOctets bytes (vacant bit))) (sym empty); looks = sym cost; far = refl })
 
   -- one that is no whole number of bytes is refused
   pub unfilled_read : form.bits ≢ 0 → form.bits % 8 ≢ 0 → (looks : ℕ) → looks ≡ 0

@@ -71,38 +71,38 @@ run-within held k bytes base some seen =
 
 -- what is no string or hexBinary lies where its box does, and has no piece
 pub plain-within : (found : Found) (behind last : ℕ) → IsPlain found behind → behind ≤ 8 * last → IsWithin found last
-plain-within (Reads content end) behind last is within = omega arith
-plain-within (HasOctets end) behind last is within = absurd is
-plain-within (Utf8 end) behind last is within = absurd is
-plain-within (HasText from to end) behind last is within = absurd is
+plain-within (Reads content span) behind last is within = omega arith
+plain-within (HasOctets span) behind last is within = absurd is
+plain-within (Utf8 span) behind last is within = absurd is
+plain-within (HasText from to end value) behind last is within = absurd is
 plain-within (HasFailed cause) behind last is within = tt
 plain-within Past behind last is within = tt
 plain-within NotCome behind last is within = tt
 
 pub plain-piece : (found : Found) (behind : ℕ) (scratch : Scratch) → IsPlain found behind → HasPiece found scratch
-plain-piece (Reads content end) behind scratch is = tt
-plain-piece (HasOctets end) behind scratch is = absurd is
-plain-piece (Utf8 end) behind scratch is = absurd is
-plain-piece (HasText from to end) behind scratch is = absurd is
+plain-piece (Reads content span) behind scratch is = tt
+plain-piece (HasOctets span) behind scratch is = absurd is
+plain-piece (Utf8 span) behind scratch is = absurd is
+plain-piece (HasText from to end value) behind scratch is = absurd is
 plain-piece (HasFailed cause) behind scratch is = tt
 plain-piece Past behind scratch is = tt
 plain-piece NotCome behind scratch is = tt
 
 -- where nothing is read, nothing is owed
 pub none-within : (found : Found) (last : ℕ) → HasNone found → IsWithin found last
-none-within (Reads content end) last is = absurd is
-none-within (HasOctets end) last is = absurd is
-none-within (Utf8 end) last is = absurd is
-none-within (HasText from to end) last is = absurd is
+none-within (Reads content span) last is = absurd is
+none-within (HasOctets span) last is = absurd is
+none-within (Utf8 span) last is = absurd is
+none-within (HasText from to end value) last is = absurd is
 none-within (HasFailed cause) last is = tt
 none-within Past last is = tt
 none-within NotCome last is = tt
 
 pub none-piece : (found : Found) (scratch : Scratch) → HasNone found → HasPiece found scratch
-none-piece (Reads content end) scratch is = absurd is
-none-piece (HasOctets end) scratch is = absurd is
-none-piece (Utf8 end) scratch is = absurd is
-none-piece (HasText from to end) scratch is = absurd is
+none-piece (Reads content span) scratch is = absurd is
+none-piece (HasOctets span) scratch is = absurd is
+none-piece (Utf8 span) scratch is = absurd is
+none-piece (HasText from to end value) scratch is = absurd is
 none-piece (HasFailed cause) scratch is = tt
 none-piece Past scratch is = tt
 none-piece NotCome scratch is = tt

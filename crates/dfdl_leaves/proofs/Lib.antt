@@ -9,4 +9,5 @@ pub mod NilReadings
 pub mod PatternReadings
 pub mod Programs
 pub mod Texts
+pub mod Widths
 pub mod Lies

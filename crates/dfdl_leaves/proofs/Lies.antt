@@ -25,6 +25,7 @@ use Rattle.dfdl_looks.proofs.Resumed.{on_seen}
 use Rattle.dfdl_looks.proofs.Sequels.{ask-then}
 use Rattle.dfdl_looks.proofs.Waiting.{far-grows}
 use Rattle.dfdl_grammar.specs.Leaves.{Find, Fails, FindsOctets, bytes_spanned, default_by_step, default_find, default_of_size, field, find_in, has_room, is_no_size, nil_octets_find, nil_value_find, octets, pattern_find, program, program_for, text_sought}
+use Rattle.dfdl_grammar.specs.Spans.{filled, vacant}
 use Rattle.dfdl_grammar.specs.Framing.{aligned}
 use Rattle.dfdl_leaves.proofs.Made.{made-ends}
 use Rattle.dfdl_leaves.proofs.Scans.{any}
@@ -100,7 +101,7 @@ module _ (look : ℕ → Seen) (last bit : ℕ) (come : bit ≤ 8 * last) (lies 
 
   octets-lie : (form : OctetForm) (t : Tally) → Lies (ask look (octets form bit) t).reached
   octets-lie form t =
-      either-lies (nat_eq form.bits 0) (Answer (FindsOctets [] bit)) _ t come
+      either-lies (nat_eq form.bits 0) (Answer (FindsOctets [] (vacant bit))) _ t come
       (either-lies (nat_eq (form.bits % 8) 0) (field (Octets form) bit) (Answer (Fails NotFilled)) t
       (run-lies (bytes_spanned bit form.bits) (bit / 8) (find_in (Octets form) bit) t (omega arith) (λ bytes far. spans form.bits far)) tt)
 
@@ -129,13 +130,13 @@ module _ (look : ℕ → Seen) (last bit : ℕ) (come : bit ≤ 8 * last) (lies 
   program-lies : (lists : List Opened) (primitive : Primitive) (stop : ℕ) → has_room primitive bit stop ≡ true → Lies (ask look (program lists primitive bit stop) nothing).reached
   program-lies lists (Integer form) stop room =
       run-lies (bytes_spanned bit form.bits) (bit / 8) (find_in (Integer form) bit) nothing (omega arith)
-      (λ bytes far. number-at (λ e. e ≤ 8 * last) (bit + form.bits) (integer_reading form (field_of form bytes (bit % 8))) (spans form.bits far))
+      (λ bytes far. number-at (λ e. e ≤ 8 * last) (filled bit form.bits) (integer_reading form (field_of form bytes (bit % 8))) (spans form.bits far))
   program-lies lists (Packed form) stop room =
       run-lies (bytes_spanned bit (4 * form.nibbles)) (bit / 8) (find_in (Packed form) bit) nothing (omega arith)
-      (λ bytes far. packed-at (λ e. e ≤ 8 * last) (bit + 4 * form.nibbles) (packed_reading form (nibbles_in form bytes (bit % 8))) (spans (4 * form.nibbles) far))
+      (λ bytes far. packed-at (λ e. e ≤ 8 * last) (filled bit (4 * form.nibbles)) (packed_reading form (nibbles_in form bytes (bit % 8))) (spans (4 * form.nibbles) far))
   program-lies lists (Truth form) stop room =
       run-lies (bytes_spanned bit form.bits) (bit / 8) (find_in (Truth form) bit) nothing (omega arith)
-      (λ bytes far. truth-at (λ e. e ≤ 8 * last) (bit + form.bits) (truth_reading form (truth_field_of form bytes (bit % 8))) (spans form.bits far))
+      (λ bytes far. truth-at (λ e. e ≤ 8 * last) (filled bit form.bits) (truth_reading form (truth_field_of form bytes (bit % 8))) (spans form.bits far))
   program-lies lists (Octets form) stop room = octets-lie form nothing
   program-lies lists (Text form) stop room = string-lies look last form lists bit come lies stop room
   program-lies lists (NilOctets form) stop room =

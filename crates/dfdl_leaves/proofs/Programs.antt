@@ -24,6 +24,7 @@ use Rattle.dfdl_grammar.specs.Framing.{aligned}
 use Rattle.dfdl_grammar.specs.Delimited.{first_step, scanned}
 use Rattle.dfdl_grammar.specs.Patterns.{most_sought}
 use Rattle.dfdl_grammar.specs.Leaves.{Find, Fails, FindsOctets, bits_of, bytes_spanned, default_by_step, default_of_size, delimited_find, empty_begins, field, find_in, nil_octets_find, nil_value_find, octets, pattern_find, program, program_for, text_begins, text_find, text_of_size, text_sought}
+use Rattle.dfdl_grammar.specs.Spans.{vacant}
 use Rattle.dfdl_leaves.proofs.Scans.{first-from, scanned-from}
 
 -- looks that lie behind a byte lie behind one before it
@@ -89,7 +90,7 @@ field-from low primitive bit base =
 octets-from : (low : ℕ) (form : OctetForm) (bit : ℕ) → low ≤ bit / 8 → AsksFrom low (octets form bit)
 octets-from low form bit base =
     let whole : Ask Find = cond (nat_eq (form.bits % 8) 0) (field (Octets form) bit) (Answer (Fails NotFilled)) in
-    from-either low (nat_eq form.bits 0) (Answer (FindsOctets [] bit)) whole tt
+    from-either low (nat_eq form.bits 0) (Answer (FindsOctets [] (vacant bit))) whole tt
     (from-either low (nat_eq (form.bits % 8) 0) (field (Octets form) bit) (Answer (Fails NotFilled)) (field-from low (Octets form) bit base) tt)
 
 -- each look of a leaf is at the byte of its box's first bit or behind it

@@ -32,7 +32,7 @@ use Rattle.dfdl_texts.specs.declared.found.Glance.{Glance as TextGlance}
 use Rattle.dfdl_text_string.specs.Padding.{trimmed}
 use Rattle.dfdl_leaves.specs.Strings.{text_reached}
 use Rattle.dfdl_leaves.specs.Views.{text_of as sized}
-use Rattle.dfdl_leaves.proofs.Ends.{AtEnd, content-at, delimited-at, ends-found}
+use Rattle.dfdl_leaves.proofs.Ends.{AtEnd, delimited-at, ends-found, kept-at}
 use Rattle.dfdl_leaves.proofs.Made.{made-ends}
 use Rattle.dfdl_leaves.proofs.Scans.{ContentEnds, scanned-ends}
 
@@ -118,7 +118,7 @@ module _ (look : ℕ → Seen) (last : ℕ) (form : TextForm) (lists : List Open
   ends-text : (of : Extent) (stop k : ℕ) → bit / 8 ≤ k → ((chars : List ℕ) (end : ℕ) → TextEnds of stop last k chars end → text_behind form.size bit end ≤ 8 * last)
       → (r : Reached Text) → (ask look (text_at form.encoding form.replaces of stop k) nothing).reached ≡ r → AtEnd (λ e. e ≤ 8 * last) (text_reached form bit r)
   ends-text of stop k from near (Told (Reads chars end)) is =
-      content-at (λ e. e ≤ 8 * last) form.content (trimmed form.pad chars) (text_behind form.size bit end)
+      kept-at (λ e. e ≤ 8 * last) form (text_behind form.size bit end) (trimmed form.pad chars)
       (near chars end (text-lies form.encoding form.replaces of stop look last k nothing chars end
       (λ j byte after seen. lies j byte (omega arith) seen) is))
   ends-text of stop k from near (Told HasBad) is = tt

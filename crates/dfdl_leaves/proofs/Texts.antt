@@ -28,11 +28,12 @@ use Rattle.dfdl_looks.proofs.Resumed.{on_seen}
 use Rattle.dfdl_looks.proofs.Sequels.{ask-then}
 use Rattle.dfdl_grammar.specs.Leaves.{Find, Fails, FindsOctets, bytes_spanned, default_by_step, default_find, default_of_size, delimited_find, field, find_in, is_no_size, nil_octets_find, nil_value_find, octets, pattern_find, program, program_for, text_behind, text_begins, text_find, text_of_size, text_sought}
 use Rattle.dfdl_grammar.specs.Framing.{aligned}
+use Rattle.dfdl_grammar.specs.Spans.{filled, vacant}
 use Rattle.dfdl_terms.specs.declared.text.PatternForm.{PatternForm}
 use Rattle.dfdl_text_string.specs.Padding.{trimmed}
 use Rattle.dfdl_leaves.proofs.Made.{made-ends}
 use Rattle.dfdl_leaves.proofs.Scans.{ContentEnds, any, scanned-ends}
-use Rattle.dfdl_leaves.proofs.Ends.{AtEnd, absent-at, content-at, default-at, delimited-at, nil_octets-at, nil_value-at, number-at, packed-at, pattern-at, truth-at}
+use Rattle.dfdl_leaves.proofs.Ends.{AtEnd, absent-at, default-at, delimited-at, kept-at, nil_octets-at, nil_value-at, number-at, packed-at, pattern-at, truth-at}
 
 -- what is found ends at this bit or behind it
 abbrev pub EndsBehind : ℕ → Reached Find → Type 0
@@ -84,7 +85,7 @@ module _ (look : ℕ → Seen) where
       → ((chars : List ℕ) (end : ℕ) → r ≡ Told (Reads chars end) → k ≤ end)
       → EndsBehind bit (go_on look (λ text. Answer (text_find form bit text)) r u).reached
   found-ends form bit k at (Told (Reads chars end)) u behind =
-      content-at (λ e. bit ≤ e) form.content (trimmed form.pad chars) (text_behind form.size bit end) (reads-behind form.size bit k end at (behind chars end refl))
+      kept-at (λ e. bit ≤ e) form (text_behind form.size bit end) (trimmed form.pad chars) (reads-behind form.size bit k end at (behind chars end refl))
   found-ends form bit k at (Told HasBad) u behind = tt
   found-ends form bit k at (Told IsCut) u behind = tt
   found-ends form bit k at (Told IsBoxed) u behind = tt
@@ -129,7 +130,7 @@ module _ (look : ℕ → Seen) where
 
   octets-end : (form : OctetForm) (bit : ℕ) (t : Tally) → EndsBehind bit (ask look (octets form bit) t).reached
   octets-end form bit t =
-      either-ends bit (nat_eq form.bits 0) (Answer (FindsOctets [] bit)) _ t (omega arith)
+      either-ends bit (nat_eq form.bits 0) (Answer (FindsOctets [] (vacant bit))) _ t (omega arith)
       (either-ends bit (nat_eq (form.bits % 8) 0) (field (Octets form) bit) (Answer (Fails NotFilled)) t
       (run-ends bit (bytes_spanned bit form.bits) (bit / 8) (find_in (Octets form) bit) t (λ bytes. omega arith)) tt)
 
@@ -156,13 +157,13 @@ module _ (look : ℕ → Seen) where
   program-ends : (lists : List Opened) (primitive : Primitive) (bit stop : ℕ) (t : Tally) → EndsBehind bit (ask look (program lists primitive bit stop) t).reached
   program-ends lists (Integer form) bit stop t =
       run-ends bit (bytes_spanned bit form.bits) (bit / 8) (find_in (Integer form) bit) t
-      (λ bytes. number-at (λ e. bit ≤ e) (bit + form.bits) (integer_reading form (field_of form bytes (bit % 8))) (omega arith))
+      (λ bytes. number-at (λ e. bit ≤ e) (filled bit form.bits) (integer_reading form (field_of form bytes (bit % 8))) (omega arith))
   program-ends lists (Packed form) bit stop t =
       run-ends bit (bytes_spanned bit (4 * form.nibbles)) (bit / 8) (find_in (Packed form) bit) t
-      (λ bytes. packed-at (λ e. bit ≤ e) (bit + 4 * form.nibbles) (packed_reading form (nibbles_in form bytes (bit % 8))) (omega arith))
+      (λ bytes. packed-at (λ e. bit ≤ e) (filled bit (4 * form.nibbles)) (packed_reading form (nibbles_in form bytes (bit % 8))) (omega arith))
   program-ends lists (Truth form) bit stop t =
       run-ends bit (bytes_spanned bit form.bits) (bit / 8) (find_in (Truth form) bit) t
-      (λ bytes. truth-at (λ e. bit ≤ e) (bit + form.bits) (truth_reading form (truth_field_of form bytes (bit % 8))) (omega arith))
+      (λ bytes. truth-at (λ e. bit ≤ e) (filled bit form.bits) (truth_reading form (truth_field_of form bytes (bit % 8))) (omega arith))
   program-ends lists (Octets form) bit stop t = octets-end form bit t
   program-ends lists (Text form) bit stop t = size-ends form form.size refl lists bit stop t
   program-ends lists (NilOctets form) bit stop t =

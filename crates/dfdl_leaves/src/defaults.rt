@@ -4,6 +4,7 @@ ghost use Rattle.dfdl_bits.specs.Window.{end_of, seen_at};
 ghost use Rattle.dfdl_delims.specs.Lists.{Opened};
 ghost use Rattle.dfdl_delims.specs.Opening.{Opens};
 ghost use Rattle.dfdl_grammar.specs.Leaves.{Fails, default_find, default_of};
+ghost use Rattle.dfdl_grammar.specs.Spans.{vacant};
 ghost use Rattle.dfdl_report.specs.declared.cause.ParseCause.TheVariants.{RequiredEmpty};
 ghost use Rattle.dfdl_looks.specs.Asks.{Told, ask};
 ghost use Rattle.dfdl_looks.specs.Tallies.{nothing};
@@ -12,6 +13,7 @@ ghost use Rattle.dfdl_leaves.specs.Views.{default_of as sized};
 
 use crate::delimited::read_absent;
 use crate::leaf::{Found, Glance, Scratch};
+use crate::spans::vacant;
 use dfdl_bits::{Steps, Window};
 use dfdl_delims::{Candidates, OpenLists};
 use dfdl_region::Content;
@@ -104,20 +106,23 @@ pub(crate) fn default_found(
         Value::Truth(truth) => Ok(at_bit(Content::Truth(*truth), bit)),
         Value::Text(text) => {
             put(text.as_str().as_bytes(), &mut scratch.octets)?;
-            Ok(Found::Utf8 { end: bit })
+            Ok(Found::Utf8 { span: vacant(bit) })
         }
         Value::Bytes(bytes) => {
             put(bytes.as_slice(), &mut scratch.octets)?;
-            Ok(Found::Octets { end: bit })
+            Ok(Found::Octets { span: vacant(bit) })
         }
     }
 }
 
 // A content in a box without bits, at a bit.
 fn at_bit(content: Content, bit: u64) -> Found
-    ensures { result ≡ Found.Reads content bit }
+    ensures { result ≡ Found.Reads content (vacant bit) }
 {
-    Found::Reads { content, end: bit }
+    Found::Reads {
+        content,
+        span: vacant(bit),
+    }
 }
 
 // Puts bytes into a list, in place of what it has.

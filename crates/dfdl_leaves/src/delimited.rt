@@ -9,14 +9,14 @@ ghost use Rattle.dfdl_escapes.specs.Reads.{ending_shown};
 ghost use Rattle.dfdl_escapes.specs.Trims.{trimmed_content};
 ghost use Rattle.dfdl_grammar.specs.Delimited.{first_step, plain, scanned, scanned_as, scanned_from};
 ghost use Rattle.dfdl_grammar.specs.Framing.{aligned};
-ghost use Rattle.dfdl_grammar.specs.Leaves.{content_find, default_by_step, delimited_find};
+ghost use Rattle.dfdl_grammar.specs.Leaves.{default_by_step, delimited_find, kept_find};
 ghost use Rattle.dfdl_looks.specs.Asks.{Answer, Told, and_then, ask};
 ghost use Rattle.dfdl_looks.specs.Tallies.{nothing};
 ghost use Rattle.dfdl_terms.specs.Rows.{IsTextContent};
 ghost use Rattle.dfdl_leaves.specs.Readings.{Answers, HasPiece, IsWithin, found_shown};
 ghost use Rattle.dfdl_leaves.specs.Strings.{made_of};
 
-use crate::contents::content_found;
+use crate::contents::kept_found;
 use crate::defaults::default_found;
 use crate::framing::aligned;
 use crate::leaf::{Found, Glance, Scratch};
@@ -161,14 +161,14 @@ fn trimmed_found(form: &TextForm, byte: u64, scratch: &mut Scratch) -> Result<Fo
     requires byte { byte ≤ 2 ^ 60 }
     requires content { IsTextContent form.now.content }
     ensures shown { IfOk result (λ found. found_shown scratch.new found
-        ≡ Told (content_find form.now.content (plain (trimmed_content form.now.pad scratch.old.content.items)) (8 * byte))) }
+        ≡ Told (kept_find form.now (8 * byte) (plain (trimmed_content form.now.pad scratch.old.content.items)))) }
     ensures within { IfOk result (λ found. (last : ℕ) → byte ≤ last → IsWithin found last) }
     ensures piece { IfOk result (λ found. HasPiece found scratch.new) }
 {
     let (from, to) = trim_content(&form.pad, scratch.content.as_slice());
     put_plain(&scratch.content[from..to], &mut scratch.characters)?;
     let count = scratch.characters.len();
-    let found = content_found(&form.content, scratch, 0, count, 8 * byte)?;
+    let found = kept_found(form, scratch, 0, count, 8 * byte)?;
     Ok(found)
 }
 

@@ -18,12 +18,14 @@ use crate::nil_values::nil_value_found;
 use crate::nils::read_nil_octets;
 use crate::octets::read_octets;
 use crate::patterns::read_pattern;
+use crate::spans::filled;
 use crate::strings::read_string;
 use crate::view::{Leaf, Wanted, number_bits};
 use dfdl_bits::{Seen, Steps, Window, number_at};
 use dfdl_delims::{Candidates, OpenLists};
 use dfdl_escapes::Character;
 use dfdl_forms::{BitTruthForm, Form, IntForm, PackedForm};
+use dfdl_grammar::Span;
 use dfdl_int_binary::{read, read_truth};
 use dfdl_packed::PackedFault;
 use dfdl_region::Content;
@@ -70,14 +72,27 @@ impl Scratch {
 /// What a leaf comes to.
 #[derive(Debug, Clone, Copy, PartialEq, Eq)]
 pub enum Found {
-    /// Its content, and the bit behind its box.
-    Reads { content: Content, end: u64 },
-    /// A hexBinary, whose bytes are those of the scratch, and the bit behind its box.
-    Octets { end: u64 },
-    /// A string, whose bytes are those of the scratch, as UTF-8, and the bit behind its box.
-    Utf8 { end: u64 },
-    /// A string, whose characters are those of the scratch from one on and before another, and the bit behind its box.
-    Text { from: usize, to: usize, end: u64 },
+    /// Its content, the bit behind its box, and the length of its value.
+    Reads {
+        content: Content,
+        span: Span,
+    },
+    /// A hexBinary, whose bytes are those of the scratch.
+    Octets {
+        span: Span,
+    },
+    /// A string, whose bytes are those of the scratch, as UTF-8.
+    Utf8 {
+        span: Span,
+    },
+    /// A string, whose characters are those of the scratch from one on and before another, the bit behind its box, and how many bits its
+    /// value has, where these aren't those of its bytes as UTF-8.
+    Text {
+        from: usize,
+        to: usize,
+        end: u64,
+        value: Option<u64>,
+    },
     /// It has none, for this cause.
     Fails(ParseCause),
     /// A byte of it is too far from the first that is still needed.
@@ -244,16 +259,16 @@ fn integer_in(form: IntForm, bit: u64, bytes: &[u8]) -> Found
     ensures found { (scratch : AnyScratch) → found_shown scratch result ≡ Told (find_in (Integer form) bit bytes.now) }
     ensures plain { IsPlain result (bit + form.bits) }
 {
-    let end = bit + u64::from(form.bits);
+    let span = filled(bit, u64::from(form.bits));
     if let Form::Unsigned { .. } = form.kind.form() {
         let number = number_at(bytes, bit % 8, form.bits, form.bytes_by, form.bits_by);
         return Found::Reads {
             content: Content::Unsigned(number),
-            end,
+            span,
         };
     }
     match read(bytes, bit % 8, &form) {
-        Ok(value) => found_of(&value, end),
+        Ok(value) => found_of(&value, span),
         Err(_) => Found::Fails(ParseCause::PastType),
     }
 }
@@ -266,17 +281,17 @@ fn packed_in(form: PackedForm, bit: u64, bytes: &[u8]) -> Found
     ensures found { (scratch : AnyScratch) → found_shown scratch result ≡ Told (find_in (Packed form) bit bytes.now) }
     ensures plain { IsPlain result (bit + 4 * form.nibbles) }
 {
-    let end = bit + 4 * u64::from(form.nibbles);
-    packed_found(&dfdl_packed::read(bytes, bit % 8, &form), end)
+    let span = filled(bit, 4 * u64::from(form.nibbles));
+    packed_found(&dfdl_packed::read(bytes, bit % 8, &form), span)
 }
 
-/// What the reading of a packed or zoned number is found as, whose box ends at a bit.
-pub(crate) fn packed_found(read: &Result<Value, PackedFault>, end: u64) -> Found
-    ensures found { (scratch : AnyScratch) → found_shown scratch result ≡ Told (packed_find end read.now) }
-    ensures plain { IsPlain result end }
+/// What the reading of a packed or zoned number of this span is found as.
+pub(crate) fn packed_found(read: &Result<Value, PackedFault>, span: Span) -> Found
+    ensures found { (scratch : AnyScratch) → found_shown scratch result ≡ Told (packed_find span read.now) }
+    ensures plain { IsPlain result span.end }
 {
     match read {
-        Ok(value) => found_of(value, end),
+        Ok(value) => found_of(value, span),
         Err(PackedFault::BadNibble) => Found::Fails(ParseCause::BadNibble),
         Err(PackedFault::PastType) => Found::Fails(ParseCause::PastType),
     }
@@ -290,33 +305,33 @@ fn truth_in(form: BitTruthForm, bit: u64, bytes: &[u8]) -> Found
     ensures found { (scratch : AnyScratch) → found_shown scratch result ≡ Told (find_in (Truth form) bit bytes.now) }
     ensures plain { IsPlain result (bit + form.bits) }
 {
-    let end = bit + u64::from(form.bits);
+    let span = filled(bit, u64::from(form.bits));
     match read_truth(bytes, bit % 8, &form) {
         Ok(truth) => Found::Reads {
             content: Content::Truth(truth),
-            end,
+            span,
         },
         Err(_) => Found::Fails(ParseCause::UnknownBoolean),
     }
 }
 
-/// What a value is found as, whose box ends at a bit.
-pub(crate) fn found_of(value: &Value, end: u64) -> Found
-    ensures found { (scratch : AnyScratch) → found_shown scratch result ≡ Told (find_of end (Some value.now)) }
-    ensures plain { IsPlain result end }
+/// What a value of this span is found as.
+pub(crate) fn found_of(value: &Value, span: Span) -> Found
+    ensures found { (scratch : AnyScratch) → found_shown scratch result ≡ Told (find_of span (Some value.now)) }
+    ensures plain { IsPlain result span.end }
 {
     match value {
         Value::Int(number) => Found::Reads {
             content: Content::Signed(*number),
-            end,
+            span,
         },
         Value::Uns(number) => Found::Reads {
             content: Content::Unsigned(*number),
-            end,
+            span,
         },
         Value::Dec(number) => Found::Reads {
             content: Content::Decimal(*number),
-            end,
+            span,
         },
         Value::Text(_) => Found::Fails(ParseCause::PastType),
         Value::Truth(_) => Found::Fails(ParseCause::PastType),

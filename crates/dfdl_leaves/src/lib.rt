@@ -14,10 +14,12 @@ mod nil_values;
 mod nils;
 mod octets;
 pub mod patterns;
+pub mod spans;
 mod strings;
 pub mod view;
 
 pub use framing::aligned;
 pub use leaf::{Found, Glance, Scratch, read_wanted};
 pub use patterns::{put_text, read_sought};
+pub use spans::{text_span, vacant};
 pub use view::{Leaf, Wanted, content_begins, has_room};

@@ -7,11 +7,12 @@ ghost use Rattle.dfdl_region.specs.Bytes.{utf8_of};
 ghost use Rattle.dfdl_grammar.specs.Leaves.{is_bytes, is_text, is_value};
 ghost use Rattle.dfdl_leaves.specs.declared.leaf.Scratch.{Scratch as AnyScratch};
 ghost use Rattle.dfdl_leaves.specs.Nils.{nil_value_reached};
-ghost use Rattle.dfdl_leaves.specs.Readings.{HasPiece, IsWithin, found_shown};
+ghost use Rattle.dfdl_leaves.specs.Readings.{HasPiece, IsPlain, IsWithin, found_shown, string_shown};
 
 use crate::leaf::{Found, Scratch};
 use crate::nils::nil_found;
 use crate::patterns::put_text;
+use crate::spans::text_span;
 use dfdl_decimal::Fixed;
 use dfdl_region::Content;
 use dfdl_value::Value;
@@ -30,12 +31,20 @@ pub(crate) fn nil_value_found(
     ensures piece { IfOk result (λ nil. (after : AnyScratch) → HasPiece nil after) }
 {
     match found {
-        Found::Reads { content, end } => Ok(nil_found(is_content(values, content), end)),
-        Found::Octets { end } => Ok(nil_found(are_octets(values, scratch.octets.as_slice()), end)),
-        Found::Utf8 { end } => Ok(nil_found(is_text(values, scratch.octets.as_slice()), end)),
-        Found::Text { from, to, end } => {
-            let is_nil = are_text(values, scratch, from, to)?;
-            Ok(nil_found(is_nil, end))
+        Found::Reads { content, span } => Ok(nil_found(is_content(values, content), span)),
+        Found::Octets { span } => Ok(nil_found(
+            are_octets(values, scratch.octets.as_slice()),
+            span,
+        )),
+        Found::Utf8 { span } => Ok(nil_found(is_text(values, scratch.octets.as_slice()), span)),
+        Found::Text {
+            from,
+            to,
+            end,
+            value,
+        } => {
+            let nil = nil_text(values, scratch, from, to, end, value)?;
+            Ok(nil)
         }
         Found::Fails(cause) => Ok(Found::Fails(cause)),
         Found::Past => Ok(Found::Past),
@@ -43,18 +52,24 @@ pub(crate) fn nil_value_found(
     }
 }
 
-// Whether one of the values is the text of the characters of the scratch from one on and before another.
-fn are_text(
+// What the string of the characters of the scratch from one on and before another is found as that has to be one of the values.
+fn nil_text(
     values: &[Value],
     scratch: &mut Scratch,
     from: usize,
     to: usize,
-) -> Result<bool, AllocError>
+    end: u64,
+    value: Option<u64>,
+) -> Result<Found, AllocError>
     requires piece { (from ≤ to) × (to ≤ length scratch.old.characters.items) }
-    ensures { IfOk result (λ are. are ≡ list_any (is_text (utf8_of (take (to - from) (drop from scratch.old.characters.items)))) values.now) }
+    ensures found { IfOk result (λ nil. (after : AnyScratch) → found_shown after nil
+        ≡ nil_value_reached values.now (string_shown (utf8_of (take (to - from) (drop from scratch.old.characters.items))) end value)) }
+    ensures plain { IfOk result (λ nil. IsPlain nil end) }
 {
     put_text(&scratch.characters[from..to], &mut scratch.text)?;
-    Ok(is_text(values, scratch.text.as_bytes()))
+    let bytes = scratch.text.as_bytes();
+    let span = text_span(bytes.len() as u64, end, value);
+    Ok(nil_found(is_text(values, bytes), span))
 }
 
 // Whether one of the values is this content.

@@ -16,6 +16,7 @@ use crate::octets::read_octets;
 use dfdl_bits::{Steps, Window};
 use dfdl_chars::encode;
 use dfdl_forms::Encoding;
+use dfdl_grammar::Span;
 use dfdl_literal_texts::{is_repeated, is_text_of_any};
 use dfdl_region::Content;
 use dfdl_report::ParseCause;
@@ -66,9 +67,9 @@ fn nil_octets_found(
     ensures piece { IfOk result (λ found. (after : AnyScratch) → HasPiece found after) }
 {
     match octets {
-        Found::Octets { end } => {
+        Found::Octets { span } => {
             let is_nil = are_nil(form, scratch.octets.as_slice(), &mut scratch.places)?;
-            Ok(nil_found(is_nil, end))
+            Ok(nil_found(is_nil, span))
         }
         Found::Fails(cause) => Ok(Found::Fails(cause)),
         Found::Past => Ok(Found::Past),
@@ -79,15 +80,15 @@ fn nil_octets_found(
     }
 }
 
-/// What bytes or characters before a bit are found as that have to be nil.
-pub(crate) fn nil_found(is_nil: bool, end: u64) -> Found
-    ensures found { (scratch : AnyScratch) → found_shown scratch result ≡ Told (nil_find end is_nil) }
-    ensures plain { IsPlain result end }
+/// What bytes or characters of this span are found as that have to be nil.
+pub(crate) fn nil_found(is_nil: bool, span: Span) -> Found
+    ensures found { (scratch : AnyScratch) → found_shown scratch result ≡ Told (nil_find span is_nil) }
+    ensures plain { IsPlain result span.end }
 {
     if is_nil {
         Found::Reads {
             content: Content::Nil,
-            end,
+            span,
         }
     } else {
         Found::Fails(ParseCause::RequiredEmpty)

@@ -8,6 +8,7 @@ ghost use Rattle.dfdl_looks.specs.Tallies.{nothing};
 ghost use Rattle.dfdl_leaves.specs.Readings.{Answers, HasPiece, IsWithin};
 
 use crate::leaf::{Found, Glance, Scratch, cut, spanned};
+use crate::spans::{filled, vacant};
 use dfdl_bits::{BitOrder, ByteOrder, Steps, Window, number_at_64};
 use dfdl_report::ParseCause;
 use dfdl_terms::OctetForm;
@@ -34,7 +35,7 @@ pub(crate) fn read_octets<L: Ledger>(
     if form.bits == 0 {
         scratch.octets.clear();
         return Ok(Glance {
-            found: Found::Octets { end: bit },
+            found: Found::Octets { span: vacant(bit) },
             far: 0,
         });
     }
@@ -54,7 +55,7 @@ pub(crate) fn read_octets<L: Ledger>(
     put_octets(form.bits_by, run, bit % 8, octets, &mut scratch.octets)?;
     Ok(Glance {
         found: Found::Octets {
-            end: bit + form.bits,
+            span: filled(bit, form.bits),
         },
         far: first + count as u64,
     })

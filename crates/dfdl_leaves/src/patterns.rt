@@ -15,6 +15,7 @@ ghost use Rattle.dfdl_leaves.specs.Readings.{Answers, HasPiece, IsWithin, found_
 
 use crate::framing::aligned;
 use crate::leaf::{Found, Glance, Scratch};
+use crate::spans::vacant;
 use dfdl_bits::{Steps, Window};
 use dfdl_chars::width_in;
 use dfdl_forms::Encoding;
@@ -105,7 +106,7 @@ fn pattern_found(
             let width = matched_width(form, scratch)?;
             Ok(Found::Reads {
                 content: Content::Unsigned(width),
-                end: matched_from(bit, width),
+                span: vacant(matched_from(bit, width)),
             })
         }
         TextFound::HasBad => Ok(Found::Fails(ParseCause::BadCharacter)),

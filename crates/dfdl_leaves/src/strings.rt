@@ -14,7 +14,7 @@ ghost use Rattle.dfdl_leaves.specs.Readings.{Answers, HasPiece, IsWithin, found_
 ghost use Rattle.dfdl_leaves.specs.Strings.{EndsBefore, text_reached};
 ghost use Rattle.dfdl_leaves.specs.Views.{text_of};
 
-use crate::contents::content_found;
+use crate::contents::kept_found;
 use crate::delimited::read_delimited;
 use crate::framing::aligned;
 use crate::leaf::{Found, Glance, Scratch};
@@ -158,7 +158,7 @@ fn text_found(
         TextFound::Reads { end } => {
             let (from, to) = trim(&form.pad, scratch.characters.as_slice());
             let behind = text_behind(size, bit, end);
-            let found = content_found(&form.content, scratch, from, to, behind)?;
+            let found = kept_found(form, scratch, from, to, behind)?;
             Ok(found)
         }
         TextFound::HasBad => Ok(Found::Fails(ParseCause::BadCharacter)),

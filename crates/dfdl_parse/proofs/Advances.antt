@@ -11,19 +11,20 @@ use Rattle.dfdl_terms.specs.declared.row.Primitive.{Primitive}
 use Rattle.dfdl_delims.specs.Lists.{Opened}
 use Rattle.dfdl_terms.specs.declared.delimiters.Delimiters.{Delimiters}
 use Rattle.dfdl_terms.specs.declared.row.Row.{Row}
-use Rattle.dfdl_terms.specs.declared.row.Row.TheVariants.{Leaf, Elem, Group, Skip, Align, Initiator, Terminator, Separator, Scope, Boxed, PrefixedLeaf, PrefixedBox, MeasuredLeaf, MeasuredBox, Repeat, Counted, Optional, Choice, Dispatch, Statement, Concluded, Hidden, Separated}
+use Rattle.dfdl_terms.specs.declared.row.Row.TheVariants.{Leaf, Elem, Group, Skip, Align, Initiator, Terminator, Separator, Scope, Boxed, PrefixedLeaf, PrefixedBox, MeasuredLeaf, MeasuredBox, Repeat, Counted, Optional, Choice, Dispatch, Statement, Concluded, Hidden, Spanned, Instance, Separated}
 use Rattle.dfdl_terms.specs.Rows.{Table}
 use Rattle.dfdl_looks.specs.Looks.{Agrees}
 use Rattle.dfdl_looks.specs.Asks.{Ask, AsksFrom, Reached, Told, TooFar, Missing, ask}
 use Rattle.dfdl_looks.specs.Tallies.{Tally, first_of, needs_from, nothing, one_row, plus, saw_byte}
 use Rattle.dfdl_looks.proofs.Waiting.{kept}
+use Rattle.dfdl_grammar.specs.Boxes.{filled_from}
 use Rattle.dfdl_grammar.specs.declared.end.End.{End}
 use Rattle.dfdl_grammar.specs.declared.end.End.TheVariants.{Done, Failed, Stopped}
 use Rattle.dfdl_grammar.specs.declared.end.Halt.TheVariants.{Limit}
 use Rattle.dfdl_grammar.specs.declared.limits.Limits.{Limits}
 use Rattle.dfdl_grammar.specs.States.{State, anchor, anchor_at}
 use Rattle.dfdl_grammar.specs.Marks.{back, closed, is_settled, marked, pointed, stays_at}
-use Rattle.dfdl_grammar.specs.Occurrences.{dropped}
+use Rattle.dfdl_grammar.specs.Occurrences.{as_normal, as_tried, dropped}
 use Rattle.dfdl_grammar.specs.declared.mark.Mark.{Mark}
 use Rattle.dfdl_grammar.specs.declared.instead.Instead.{Instead}
 use Rattle.dfdl_grammar.specs.declared.instead.Instead.TheVariants.{Nothing, Nil, Empty}
@@ -34,13 +35,13 @@ use Rattle.dfdl_grammar.specs.Framing.{aligned}
 use Rattle.dfdl_grammar.specs.Delimiters.{lists_of, markup, sought_among, stands_in}
 use Rattle.dfdl_grammar.specs.Elements.{begun, has_elements}
 use Rattle.dfdl_parse.specs.declared.frame.Frame.{Frame}
-use Rattle.dfdl_parse.specs.declared.frame.Frame.TheVariants.{Rest, Element, Box, Scope as ScopeFrame, Trial, Branch, Occurrence, Times, Before, Content, Closing, Concluding}
+use Rattle.dfdl_parse.specs.declared.frame.Frame.TheVariants.{Rest, Element, Box, Spanning, Scope as ScopeFrame, Trial, Branch, Occurrence, Times, Before, Content, Closing, Aside, Concluding, Instance as InstanceFrame}
 use Rattle.dfdl_parse.specs.declared.frame.Outside.{Outside}
 use Rattle.dfdl_parse.specs.declared.frame.Next.{Next}
 use Rattle.dfdl_parse.specs.declared.frame.Next.TheVariants as next
 use Rattle.dfdl_parse.specs.declared.frame.Parts.{Parts}
 use Rattle.dfdl_parse.specs.declared.frame.Focus.{Focus}
-use Rattle.dfdl_parse.specs.declared.frame.Focus.TheVariants.{Enter, Pass, PassRest, Sized, Seek, LookIn, LookBehind, Leave}
+use Rattle.dfdl_parse.specs.declared.frame.Focus.TheVariants.{Enter, Pass, PassRest, Sized, Seek, LookIn, LookBehind, Count, Leave}
 use Rattle.dfdl_parse.specs.declared.frame.Behind.TheVariants as behind
 use Rattle.dfdl_parse.specs.Boxing.{back_outside}
 use Rattle.dfdl_parse.specs.declared.frame.Sought.{Sought}
@@ -49,13 +50,13 @@ use Rattle.dfdl_parse.specs.Searches.{among, search}
 use Rattle.dfdl_parse.specs.Moves.{Machine, Move, pass, read_leaf, read_move}
 use Rattle.dfdl_parse.specs.Prefixed.{behind_units, prefix_move, read_prefix, read_resized, read_sized}
 use Rattle.dfdl_parse.specs.Machines.{children_of, enter, enter_group, fill, fill_move, go_on, leave, pass_rest, past_one, rest_move, seen_beyond, step}
-use Rattle.dfdl_parse.specs.Trials.{attempt, parts_of, refused, retry, trial_done, try_empty, try_nil, try_normal, two_rows}
+use Rattle.dfdl_parse.specs.Trials.{attempt, parts_here, parts_of, refused, retry, trial_done, try_empty, try_nil, try_normal, two_rows}
 use Rattle.dfdl_parse.specs.Points.{try_branch, try_occurrence}
 use Rattle.dfdl_parse.specs.Testing.{read_test}
 use Rattle.dfdl_parse.specs.Stating.{make_statement, with_behind}
 use Rattle.dfdl_parse.specs.Asking.{begins}
 use Rattle.dfdl_terms.specs.declared.statement.Statement.{Statement as AnyStatement}
-use Rattle.dfdl_terms.specs.declared.statement.Statement.TheVariants.{Pattern, Expression, Setting, Calculation, Question}
+use Rattle.dfdl_terms.specs.declared.statement.Statement.TheVariants.{Pattern, Expression, Setting, Calculation, Question, Opening}
 use Rattle.dfdl_paths.specs.declared.place.Start.TheVariants.{At}
 use Rattle.dfdl_terms.specs.declared.statement.PatternTest.{PatternTest}
 use Rattle.dfdl_parse.proofs.TestSteps.{test-from}
@@ -70,7 +71,7 @@ use Rattle.dfdl_terms.specs.declared.slots.Slot.{Slot}
 use Rattle.dfdl_parse.specs.declared.frame.SlotPlace.{SlotPlace}
 use Rattle.dfdl_parse.specs.Slots.{look_behind, look_in, separation_at, slots_from, told_move}
 use Rattle.dfdl_parse.proofs.SlotAsks.{empty-from, question-agrees, question-kept, question-slid, separator-from}
-use Rattle.dfdl_parse.proofs.SlotMoves.{Passes, closing-passes, done-passes, ended-passes, failed-passes, occurs-passes, separated-passes, settled-passes}
+use Rattle.dfdl_parse.proofs.SlotMoves.{Passes, beside-passes, closing-passes, count-passes, done-passes, ended-passes, failed-passes, occurs-passes, separated-passes, settled-passes}
 use Rattle.dfdl_parse.proofs.Finishes.{Anchored, Stands}
 
 -- the window behind a step, and what the step cost while the end of the data wasn't told
@@ -163,10 +164,10 @@ module _ (held : Held) (s : State) where
   begin-keeps to k false true = pass-keeps one_row held _ _ _ refl refl
   begin-keeps to k false false = pass-keeps one_row held _ _ _ refl refl
 
-  leave-box-keeps : (outer : Outside) (k : List Frame) (over : Bool)
-      → Keeps held (cond over (pass nothing held (Leave Done) k (back_outside outer s)) (pass nothing held (PassRest s.at outer) k s))
-  leave-box-keeps outer k true = pass-keeps nothing held _ _ _ refl refl
-  leave-box-keeps outer k false = pass-keeps nothing held _ _ _ refl refl
+  leave-box-keeps : (outer : Outside) (from : ℕ) (k : List Frame) (over : Bool)
+      → Keeps held (cond over (pass nothing held (Leave Done) k (back_outside outer (filled_from from s))) (pass nothing held (PassRest s.at outer) k (filled_from from s)))
+  leave-box-keeps outer from k true = pass-keeps nothing held _ _ _ refl refl
+  leave-box-keeps outer from k false = pass-keeps nothing held _ _ _ refl refl
 
   -- the cost of fill whose last byte is seen as this
   filled-tail : (window : ℕ) (sight : Held) (low to : ℕ) (v : Seen) (k : List Frame) → (v ≡ DataEnded → ⊥) → (fill_move window sight low to v k s).tally.tail ≡ 0
@@ -269,15 +270,15 @@ module _ (held : Held) (s : State) where
 
   module _ (cost : Tally) (no_tail : cost.tail ≡ 0) (no_far : cost.far ≡ 0) (most id : ℕ) (parts : Parts) (k : List Frame) (t : State) where
     normal-keeps : Keeps held (try_normal cost most held id parts k t)
-    normal-keeps = attempt-keeps cost no_tail no_far most id parts Nothing (Trial id next.Nothing ∷ k) t (nat_lt (length t.nodes) most)
+    normal-keeps = attempt-keeps cost no_tail no_far most id parts Nothing (Trial id parts.occurrence next.Nothing ∷ k) t (nat_lt (length t.nodes) most)
 
     empty-keeps : (empty : Option ℕ) → Keeps held (try_empty cost most held id parts empty k t)
     empty-keeps None = normal-keeps
-    empty-keeps (Some prim) = attempt-keeps cost no_tail no_far most id parts (Empty prim) (Trial id next.Normal ∷ k) t (nat_lt (length t.nodes) most)
+    empty-keeps (Some prim) = attempt-keeps cost no_tail no_far most id parts (Empty prim) (Trial id parts.occurrence next.Normal ∷ k) t (nat_lt (length t.nodes) most)
 
     nil-keeps : (nil : Option ℕ) → Keeps held (try_nil cost most held id parts nil k t)
     nil-keeps None = empty-keeps parts.tried.empty
-    nil-keeps (Some prim) = attempt-keeps cost no_tail no_far most id parts (Nil prim) (Trial id next.Empty ∷ k) t (nat_lt (length t.nodes) most)
+    nil-keeps (Some prim) = attempt-keeps cost no_tail no_far most id parts (Nil prim) (Trial id parts.occurrence next.Empty ∷ k) t (nat_lt (length t.nodes) most)
 
   element-keeps : (most id : ℕ) (parts : Parts) (k : List Frame) (several : Bool)
       → Keeps held (cond several (try_nil two_rows most held id parts parts.tried.nil k (marked s)) (attempt two_rows most held id parts Nothing k s))
@@ -310,15 +311,15 @@ module _ (held : Held) (s : State) where
   branch-keeps cost no_tail no_far id place (Some child) k t = pass-keeps cost held _ _ _ no_tail no_far
 
   occurrence-keeps : (cost : Tally) → cost.tail ≡ 0 → cost.far ≡ 0 → (body : ℕ) (initiated : Bool) (left : ℕ) (k : List Frame) (t : State) (none : Bool)
-      → Keeps held (cond none (pass cost held (Leave Done) k t) (pass cost held (Enter body) (Occurrence body initiated (left - 1) ∷ k) (pointed initiated t)))
+      → Keeps held (cond none (pass cost held (Leave Done) k t) (pass cost held (Enter body) (Occurrence body initiated (left - 1) ∷ k) (as_tried (pointed initiated t))))
   occurrence-keeps cost no_tail no_far body initiated left k t true = pass-keeps cost held _ _ _ no_tail no_far
   occurrence-keeps cost no_tail no_far body initiated left k t false = pass-keeps cost held _ _ _ no_tail no_far
 
   -- what has failed at a point that is resolved, or not
-  failed-keeps : (end_told : End) (k : List Frame) (other : Move) → Keeps held other → (settled : Bool)
-      → Keeps held (cond settled (pass nothing held (Leave end_told) k (closed s)) other)
-  failed-keeps end_told k other keeps true = pass-keeps nothing held _ _ _ refl refl
-  failed-keeps end_told k other keeps false = keeps
+  failed-keeps : (end_told : End) (k : List Frame) (t : State) (other : Move) → Keeps held other → (settled : Bool)
+      → Keeps held (cond settled (pass nothing held (Leave end_told) k (closed t)) other)
+  failed-keeps end_told k t other keeps true = pass-keeps nothing held _ _ _ refl refl
+  failed-keeps end_told k t other keeps false = keeps
 
   -- a test
   test-keeps : Anchored held s → (limits : Limits) (id number : ℕ) (test : PatternTest) (k : List Frame)
@@ -335,6 +336,7 @@ module _ (held : Held) (s : State) where
   statement-keeps stands limits table id number (Some (Setting setting)) k = pass-keeps one_row held _ _ _ refl refl
   statement-keeps stands limits table id number (Some (Calculation calculation)) k = pass-keeps one_row held _ _ _ refl refl
   statement-keeps stands limits table id number (Some (Question question)) k = pass-keeps one_row held _ _ _ refl refl
+  statement-keeps stands limits table id number (Some (Opening opening)) k = pass-keeps one_row held _ _ _ refl refl
 
   -- a row that asks an expression
   begins-keeps : (cost : Tally) → cost.tail ≡ 0 → cost.far ≡ 0 → (m : Machine) → Keeps held (begins cost held m)
@@ -345,10 +347,10 @@ module _ (held : Held) (s : State) where
     far = λ on. omega arith;
   }
 
-  passed-keeps : (body : ℕ) (initiated : Bool) (left : ℕ) (k : List Frame) (stays : Bool)
-      → Keeps held (cond stays (pass nothing held (Leave Done) k (dropped s)) (try_occurrence nothing held body initiated left k (closed s)))
-  passed-keeps body initiated left k true = pass-keeps nothing held _ _ _ refl refl
-  passed-keeps body initiated left k false = occurrence-keeps nothing refl refl body initiated left k (closed s) (nat_eq left 0)
+  passed-keeps : (body : ℕ) (initiated : Bool) (left : ℕ) (k : List Frame) (t : State) (stays : Bool)
+      → Keeps held (cond stays (pass nothing held (Leave Done) k (dropped t)) (try_occurrence nothing held body initiated left k (closed t)))
+  passed-keeps body initiated left k t true = pass-keeps nothing held _ _ _ refl refl
+  passed-keeps body initiated left k t false = occurrence-keeps nothing refl refl body initiated left k (closed t) (nat_eq left 0)
 
   delimiter-keeps : (what : Sought) (k : List Frame) (does_stand : Bool)
       → Keeps held (cond does_stand (pass one_row held (Seek what) k s) (pass one_row held (Leave Done) k s))
@@ -380,8 +382,8 @@ module _ (held : Held) (s : State) where
       leaf-keeps stands one_row refl refl limits (Enter id) table.delimiters (nil_values table.primitives s.instead)
       (slice_get table.primitives (read_by table.primitives s.instead prim)) k
   enter-keeps stands limits table id (Some (Elem name simple tried statements body)) k =
-      element-keeps limits.nodes id (record { complex = has_elements simple; tried = tried; body = body }) (with_behind statements (At (length s.nodes)) k)
-      tried.are_several
+      element-keeps limits.nodes id (parts_here s.instead (has_elements simple) tried body) (with_behind statements (At (length s.nodes)) k)
+      (parts_here s.instead (has_elements simple) tried body).tried.are_several
   enter-keeps stands limits table id (Some (Group children)) k = group-keeps id children k
   enter-keeps stands limits table id (Some (Skip bits)) k = begin-keeps (s.at + bits) k (nat_le (s.at + bits) s.at) (nat_le (s.at + bits) s.stop)
   enter-keeps stands limits table id (Some (Align bits)) k =
@@ -405,6 +407,8 @@ module _ (held : Held) (s : State) where
   enter-keeps stands limits table id (Some (Statement number)) k = statement-keeps stands limits table id number (slice_get table.statements number) k
   enter-keeps stands limits table id (Some (Concluded statements body)) k = pass-keeps one_row held _ _ _ refl refl
   enter-keeps stands limits table id (Some (Hidden body)) k = pass-keeps one_row held _ _ _ refl refl
+  enter-keeps stands limits table id (Some (Spanned body)) k = pass-keeps one_row held _ _ _ refl refl
+  enter-keeps stands limits table id (Some (Instance statement body)) k = begins-keeps one_row refl refl _
   enter-keeps stands limits table id (Some (Separated policy position initiated slots)) k =
       passing-keeps one_row refl refl _ (separated-passes held initiated k id policy position slots s)
 
@@ -417,20 +421,22 @@ module _ (held : Held) (s : State) where
   leave-keeps limits table (Rest id next) (Failed cause bit) k = pass-keeps nothing held _ _ _ refl refl
   leave-keeps limits table (Element outer complex) Done k = pass-keeps nothing held _ _ _ refl refl
   leave-keeps limits table (Element outer complex) (Failed cause bit) k = pass-keeps nothing held _ _ _ refl refl
-  leave-keeps limits table (Box outer) Done k = leave-box-keeps outer k (nat_le s.stop s.at)
-  leave-keeps limits table (Box outer) (Failed cause bit) k = pass-keeps nothing held _ _ _ refl refl
+  leave-keeps limits table (Box outer from) Done k = leave-box-keeps outer from k (nat_le s.stop s.at)
+  leave-keeps limits table (Box outer from) (Failed cause bit) k = pass-keeps nothing held _ _ _ refl refl
+  leave-keeps limits table (Spanning from) Done k = pass-keeps nothing held _ _ _ refl refl
+  leave-keeps limits table (Spanning from) (Failed cause bit) k = pass-keeps nothing held _ _ _ refl refl
   leave-keeps limits table (ScopeFrame count) Done k = pass-keeps nothing held _ _ _ refl refl
   leave-keeps limits table (ScopeFrame count) (Failed cause bit) k = pass-keeps nothing held _ _ _ refl refl
-  leave-keeps limits table (Trial id next) Done k = done-keeps (parts_of (slice_get table.rows id)) next k
-  leave-keeps limits table (Trial id next) (Failed cause bit) k =
-      retry-keeps limits.nodes id (parts_of (slice_get table.rows id)) next (Failed cause bit) k
+  leave-keeps limits table (Trial id occurrence next) Done k = done-keeps (parts_of occurrence (slice_get table.rows id)) next k
+  leave-keeps limits table (Trial id occurrence next) (Failed cause bit) k =
+      retry-keeps limits.nodes id (parts_of occurrence (slice_get table.rows id)) next (Failed cause bit) k
   leave-keeps limits table (Branch id next) Done k = pass-keeps nothing held _ _ _ refl refl
   leave-keeps limits table (Branch id next) (Failed cause bit) k =
-      failed-keeps (Failed cause bit) k _ (branch-keeps nothing refl refl id next (slice_get (children_of (slice_get table.rows id)) next) k (back s))
+      failed-keeps (Failed cause bit) k s _ (branch-keeps nothing refl refl id next (slice_get (children_of (slice_get table.rows id)) next) k (back s))
       (is_settled s.marks)
-  leave-keeps limits table (Occurrence body initiated left) Done k = passed-keeps body initiated left k (stays_at s.marks s.at)
+  leave-keeps limits table (Occurrence body initiated left) Done k = passed-keeps body initiated left k (as_normal s) (stays_at s.marks s.at)
   leave-keeps limits table (Occurrence body initiated left) (Failed cause bit) k =
-      failed-keeps (Failed cause bit) k _ (pass-keeps nothing held _ _ _ refl refl) (is_settled s.marks)
+      failed-keeps (Failed cause bit) k (as_normal s) _ (pass-keeps nothing held _ _ _ refl refl) (is_settled s.marks)
   leave-keeps limits table (Times body left) Done k = begins-keeps nothing refl refl _
   leave-keeps limits table (Times body left) (Failed cause bit) k = pass-keeps nothing held _ _ _ refl refl
   leave-keeps limits table (Before slot) Done k = passing-keeps nothing refl refl _ (done-passes held false k slot (slots_from table slot) s)
@@ -438,16 +444,21 @@ module _ (held : Held) (s : State) where
       passing-keeps nothing refl refl _ (failed-passes held (separation_at table slot).initiated k slot (slots_from table slot) (Failed cause bit) s)
   leave-keeps limits table (Content slot bit empty) Done k =
       passing-keeps nothing refl refl _
-      (ended-passes held (separation_at table slot).initiated k slot bit empty (slots_from table slot) (nat_lt bit s.at) None Done s)
+      (ended-passes held (separation_at table slot).initiated k slot bit empty (slots_from table slot) (nat_lt bit s.at) None Done (as_normal s))
   leave-keeps limits table (Content slot bit empty) (Failed cause at) k =
       passing-keeps nothing refl refl _
-      (ended-passes held (separation_at table slot).initiated k slot bit empty (slots_from table slot) false (Some cause) (Failed cause at) s)
+      (ended-passes held (separation_at table slot).initiated k slot bit empty (slots_from table slot) false (Some cause) (Failed cause at) (as_normal s))
   leave-keeps limits table (Closing slot bit) Done k =
       passing-keeps nothing refl refl _ (closing-passes held (separation_at table slot).initiated k slot bit (slots_from table slot) true Done s)
   leave-keeps limits table (Closing slot bit) (Failed cause at) k =
       passing-keeps nothing refl refl _ (closing-passes held (separation_at table slot).initiated k slot bit (slots_from table slot) false (Failed cause at) s)
+  leave-keeps limits table (Aside slot) Done k =
+      passing-keeps nothing refl refl _ (beside-passes held (separation_at table slot).initiated k slot (slots_from table slot) s)
+  leave-keeps limits table (Aside slot) (Failed cause bit) k = pass-keeps nothing held _ _ _ refl refl
   leave-keeps limits table (Concluding statements start) Done k = pass-keeps nothing held _ _ _ refl refl
   leave-keeps limits table (Concluding statements start) (Failed cause bit) k = pass-keeps nothing held _ _ _ refl refl
+  leave-keeps limits table InstanceFrame Done k = pass-keeps nothing held _ _ _ refl refl
+  leave-keeps limits table InstanceFrame (Failed cause bit) k = pass-keeps nothing held _ _ _ refl refl
   leave-keeps limits table frame (Stopped cause quantity) k = pass-keeps nothing held _ _ _ refl refl
 
   -- a question of a slot
@@ -514,5 +525,7 @@ module _ (held : Held) (s : State) where
       look_in-keeps stands limits table.delimiters (separation_at table slot).initiated slot (slots_from table slot) k
   step-keeps limits table (LookBehind slot bit) k stands =
       look_behind-keeps stands limits table.delimiters (separation_at table slot).initiated slot bit (slots_from table slot) k
+  step-keeps limits table (Count slot question) k stands =
+      passing-keeps one_row refl refl _ (count-passes held (separation_at table slot).initiated k table slot question (slots_from table slot) s)
   step-keeps limits table (Leave end_told) [] stands = pass-keeps nothing held _ _ _ refl refl
   step-keeps limits table (Leave end_told) (frame ∷ k) stands = leave-keeps limits table frame end_told k

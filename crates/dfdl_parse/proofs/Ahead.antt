@@ -13,7 +13,7 @@ use Rattle.dfdl_value.specs.declared.value.Value.{Value}
 use Rattle.dfdl_terms.specs.declared.row.Primitive.{Primitive}
 use Rattle.dfdl_grammar.specs.Leaves.{nil_values, read_by}
 use Rattle.dfdl_terms.specs.declared.row.Row.{Row}
-use Rattle.dfdl_terms.specs.declared.row.Row.TheVariants.{Leaf, Elem, Group, Skip, Align, Initiator, Terminator, Separator, Scope, Boxed, PrefixedLeaf, PrefixedBox, MeasuredLeaf, MeasuredBox, Repeat, Counted, Optional, Choice, Dispatch, Statement, Concluded, Hidden, Separated}
+use Rattle.dfdl_terms.specs.declared.row.Row.TheVariants.{Leaf, Elem, Group, Skip, Align, Initiator, Terminator, Separator, Scope, Boxed, PrefixedLeaf, PrefixedBox, MeasuredLeaf, MeasuredBox, Repeat, Counted, Optional, Choice, Dispatch, Statement, Concluded, Hidden, Spanned, Instance, Separated}
 use Rattle.dfdl_terms.specs.Rows.{Table, Nests}
 use Rattle.dfdl_looks.specs.Looks.{seen_in}
 use Rattle.dfdl_looks.specs.Asks.{Answer, Reading}
@@ -34,41 +34,46 @@ use Rattle.dfdl_grammar.specs.Outcomes.{Outcome, ended, spend, then_do}
 use Rattle.dfdl_report.specs.declared.cause.ParseCause.TheVariants.{DataEnds, LengthOutOfRange, RequiredEmpty}
 use Rattle.dfdl_grammar.specs.Prefixes.{bits_of_units, size_of, sized_leaf}
 use Rattle.dfdl_grammar.specs.Framing.{aligned, fill_to, passed}
-use Rattle.dfdl_grammar.specs.Boxes.{boxed, bytes_up_to, pass_bytes, past_byte, rest, unboxed}
+use Rattle.dfdl_grammar.specs.Boxes.{boxed, bytes_up_to, pass_bytes, past_byte, rest, filled_from, rest_from, unboxed}
+use Rattle.dfdl_grammar.specs.Spans.{span_ends, spanned}
+use Rattle.dfdl_grammar.specs.Instances.{instance_closed}
+use Rattle.dfdl_grammar.specs.Representations.{is_occurrence}
+use Rattle.dfdl_grammar.specs.Occurrences.{as_normal}
 use Rattle.dfdl_grammar.specs.Elements.{begun, close, element, has_elements, left}
 use Rattle.dfdl_grammar.specs.Rows.{below, group, meaning, row}
 use Rattle.dfdl_grammar.proofs.Spending.{spend-nothing, spend-spend}
 use Rattle.dfdl_grammar.proofs.Towers.{below-meaning}
 use Rattle.dfdl_parse.specs.declared.frame.Frame.{Frame}
-use Rattle.dfdl_parse.specs.declared.frame.Frame.TheVariants.{Rest, Element, Box, Scope as ScopeFrame, Trial, Branch, Occurrence, Times, Before, Content, Closing, Concluding}
+use Rattle.dfdl_parse.specs.declared.frame.Frame.TheVariants.{Rest, Element, Box, Spanning, Scope as ScopeFrame, Trial, Branch, Occurrence, Times, Before, Content, Closing, Aside, Concluding, Instance as InstanceFrame}
 use Rattle.dfdl_parse.specs.declared.frame.Outside.{Outside}
 use Rattle.dfdl_parse.specs.declared.frame.Next.{Next}
 use Rattle.dfdl_parse.specs.declared.frame.Next.TheVariants as next
 use Rattle.dfdl_parse.specs.declared.frame.Parts.{Parts}
 use Rattle.dfdl_parse.specs.declared.frame.Focus.{Focus}
-use Rattle.dfdl_parse.specs.declared.frame.Focus.TheVariants.{Enter, Pass, PassRest, Sized, Seek, LookIn, LookBehind, Leave}
+use Rattle.dfdl_parse.specs.declared.frame.Focus.TheVariants.{Enter, Pass, PassRest, Sized, Seek, LookIn, LookBehind, Count, Leave}
 use Rattle.dfdl_parse.specs.declared.frame.Behind.TheVariants as behind
 use Rattle.dfdl_parse.specs.Boxing.{back_outside, hides}
 use Rattle.dfdl_parse.specs.declared.frame.Sought.TheVariants as sought
 use Rattle.dfdl_parse.specs.Moves.{pass}
 use Rattle.dfdl_parse.specs.Prefixed.{behind_units}
 use Rattle.dfdl_parse.specs.Machines.{children_of, enter, enter_group, fill, fill_move, go_on, leave, pass_rest, rest_move, seen_beyond, step}
-use Rattle.dfdl_parse.specs.Trials.{attempt, parts_of, refused, retry, trial_done, try_empty, try_nil, try_normal, two_rows}
+use Rattle.dfdl_parse.specs.Trials.{attempt, parts_here, parts_of, refused, retry, trial_done, try_empty, try_nil, try_normal, two_rows}
 use Rattle.dfdl_parse.specs.Ahead.{finish, focused, retried, trial_of}
 use Rattle.dfdl_parse.proofs.Lists.{drop_some, drop_none, all_at}
 use Rattle.dfdl_parse.proofs.Beyond.{beyond-same}
 use Rattle.dfdl_parse.proofs.Finishes.{Anchored, Does, Fits, after_nothing, concluded-spend, finish-spend, from_here, retried-spend, unboxed-spend}
 use Rattle.dfdl_parse.specs.Slots.{slots_from}
 use Rattle.dfdl_parse.proofs.SlotRows.{all-below, slots-below}
-use Rattle.dfdl_parse.proofs.SlotSteps.{before_done-ahead, before_failed-ahead, before_stopped-ahead, closing_done-ahead, closing_failed-ahead, closing_stopped-ahead, content_done-ahead, content_failed-ahead, content_stopped-ahead, look_behind-ahead, look_in-ahead, separated-ahead}
+use Rattle.dfdl_parse.proofs.SlotSteps.{before_done-ahead, before_failed-ahead, before_stopped-ahead, beside-ahead, closing_done-ahead, closing_failed-ahead, closing_stopped-ahead, content_done-ahead, content_failed-ahead, content_stopped-ahead, count-ahead, look_behind-ahead, look_in-ahead, separated-ahead}
 use Rattle.dfdl_parse.proofs.PointSteps.{branch-ahead, failed-branch-ahead, failed-occurrence-ahead, first-ahead, passed-ahead}
 use Rattle.dfdl_parse.proofs.AskSteps.{counted-ahead, dispatch-ahead, measured_box-ahead, measured_leaf-ahead, time-ahead}
+use Rattle.dfdl_parse.proofs.InstanceSteps.{instanced-ahead}
 use Rattle.dfdl_parse.proofs.SeekSteps.{delimiter-ahead, scope-ahead, seek-ahead, separator-ahead}
 use Rattle.dfdl_parse.proofs.LeafSteps.{Sees, box-ahead, leaf-of, prefix-of, sized-begin, sized-of}
 use Rattle.dfdl_parse.proofs.TestSteps.{test-ahead}
 use Rattle.dfdl_parse.specs.Stating.{behind_done, comes_to, make_statement, with_behind}
 use Rattle.dfdl_terms.specs.declared.statement.Statement.{Statement as AnyStatement}
-use Rattle.dfdl_terms.specs.declared.statement.Statement.TheVariants.{Pattern, Expression, Setting, Calculation, Question}
+use Rattle.dfdl_terms.specs.declared.statement.Statement.TheVariants.{Pattern, Expression, Setting, Calculation, Question, Opening}
 use Rattle.dfdl_terms.specs.declared.statement.Statements.{Statements}
 use Rattle.dfdl_paths.specs.declared.place.Start.{Start}
 use Rattle.dfdl_paths.specs.declared.place.Start.TheVariants.{At, Inside}
@@ -97,15 +102,16 @@ module _ (input : Input) (table : Table) where
       ∙ finish-spend input table k (plus cost one_row) (ended (Stopped (Limit Nodes) input.limits.nodes) s)
 
   -- one of several representations, by what follows it
-  tried-ahead : (cost : Tally) (id : ℕ) (parts : Parts) (follows : Next) (o : Outcome) (k : List Frame) → parts_of (slice_get table.rows id) ≡ Some parts
-      → finish input table k (spend cost (retried input table id (Some parts) follows o)) ≡ finish input table (Trial id follows ∷ k) (spend cost o)
+  tried-ahead : (cost : Tally) (id : ℕ) (parts : Parts) (follows : Next) (o : Outcome) (k : List Frame)
+      → parts_of parts.occurrence (slice_get table.rows id) ≡ Some parts
+      → finish input table k (spend cost (retried input table id (Some parts) follows o)) ≡ finish input table (Trial id parts.occurrence follows ∷ k) (spend cost o)
   unfolding finish
   tried-ahead cost id parts follows o k is =
       ap (finish input table k) (sym (retried-spend input table id (Some parts) follows cost o))
       ∙ ap (λ (p : Option Parts). finish input table k (retried input table id p follows (spend cost o))) (sym is)
 
   module _ (cost : Tally) (held : Held) (id : ℕ) (parts : Parts) (k : List Frame) (s : State)
-      (is : parts_of (slice_get table.rows id) ≡ Some parts) (less : parts.body < id) where
+      (is : parts_of parts.occurrence (slice_get table.rows id) ≡ Some parts) (less : parts.body < id) where
     abbrev room : Bool
     room = nat_lt (length s.nodes) input.limits.nodes
 
@@ -113,23 +119,24 @@ module _ (input : Input) (table : Table) where
         (try_normal (plus cost one_row) input.limits.nodes held id parts k s)
     normal-ahead =
         tried-ahead cost id parts next.Nothing (trial_of input table id parts Nothing s) k is
-        ∙ attempt-ahead cost held id parts Nothing (Trial id next.Nothing ∷ k) s less room
+        ∙ attempt-ahead cost held id parts Nothing (Trial id parts.occurrence next.Nothing ∷ k) s less room
 
     empty-ahead : (empty : Option ℕ) → Does input table (finish input table k (spend cost (then_empty parts.tried.refuses_empty empty (trial_of input table id parts) s)))
         (try_empty (plus cost one_row) input.limits.nodes held id parts empty k s)
     empty-ahead None = normal-ahead
     empty-ahead (Some prim) =
         tried-ahead cost id parts next.Normal (trial_of input table id parts (Empty prim) s) k is
-        ∙ attempt-ahead cost held id parts (Empty prim) (Trial id next.Normal ∷ k) s less room
+        ∙ attempt-ahead cost held id parts (Empty prim) (Trial id parts.occurrence next.Normal ∷ k) s less room
 
     nil-ahead : (nil : Option ℕ) → Does input table (finish input table k (spend cost (then_nil parts.tried nil (trial_of input table id parts) s)))
         (try_nil (plus cost one_row) input.limits.nodes held id parts nil k s)
     nil-ahead None = empty-ahead parts.tried.empty
     nil-ahead (Some prim) =
         tried-ahead cost id parts next.Empty (trial_of input table id parts (Nil prim) s) k is
-        ∙ attempt-ahead cost held id parts (Nil prim) (Trial id next.Empty ∷ k) s less room
+        ∙ attempt-ahead cost held id parts (Nil prim) (Trial id parts.occurrence next.Empty ∷ k) s less room
 
-  element-ahead : (held : Held) (id : ℕ) (parts : Parts) (k : List Frame) (s : State) → parts_of (slice_get table.rows id) ≡ Some parts → parts.body < id → (several : Bool)
+  element-ahead : (held : Held) (id : ℕ) (parts : Parts) (k : List Frame) (s : State)
+      → parts_of parts.occurrence (slice_get table.rows id) ≡ Some parts → parts.body < id → (several : Bool)
       → Does input table
       (finish input table k (spend one_row (cond several
       (then_nil parts.tried parts.tried.nil (trial_of input table id parts) (marked s)) (trial_of input table id parts Nothing s))))
@@ -137,34 +144,37 @@ module _ (input : Input) (table : Table) where
   element-ahead held id parts k s is less true = nil-ahead one_row held id parts k (marked s) is less parts.tried.nil
   element-ahead held id parts k s is less false = attempt-ahead one_row held id parts Nothing k s less (nat_lt (length s.nodes) input.limits.nodes)
 
-  -- the body of an element stands below it
-  body-below : Nests table.rows → (id : ℕ) (parts : Parts) (r : Option Row) → slice_get table.rows id ≡ r → parts_of r ≡ Some parts → parts.body < id
-  body-below nests id parts None is told = absurd (cc)
-  body-below nests id parts (Some (Leaf prim)) is told = absurd (cc)
-  body-below nests id parts (Some (Elem name simple tried statements body)) is told =
+  -- the body of an element stands below it, and its row is asked as that of an occurrence that is tried, or not
+  body-below : Nests table.rows → (id : ℕ) (occurrence : Bool) (parts : Parts) (r : Option Row) → slice_get table.rows id ≡ r
+      → parts_of occurrence r ≡ Some parts → (parts.body < id) × (parts.occurrence ≡ occurrence)
+  body-below nests id occurrence parts None is told = absurd (cc)
+  body-below nests id occurrence parts (Some (Leaf prim)) is told = absurd (cc)
+  body-below nests id occurrence parts (Some (Elem name simple tried statements body)) is told =
       let less : body < id = nests id (Elem name simple tried statements body) (slice_get_within table.rows id (Elem name simple tried statements body) is) is in
-      subst (λ (p : Option Parts). IfSome p (λ q. q.body < id)) told less
-  body-below nests id parts (Some (Group children)) is told = absurd (cc)
-  body-below nests id parts (Some (Skip bits)) is told = absurd (cc)
-  body-below nests id parts (Some (Align bits)) is told = absurd (cc)
-  body-below nests id parts (Some (Initiator delimiter)) is told = absurd (cc)
-  body-below nests id parts (Some (Terminator delimiter separators)) is told = absurd (cc)
-  body-below nests id parts (Some Separator) is told = absurd (cc)
-  body-below nests id parts (Some (Scope list body)) is told = absurd (cc)
-  body-below nests id parts (Some (Boxed bits body)) is told = absurd (cc)
-  body-below nests id parts (Some (PrefixedLeaf prefix prim)) is told = absurd (cc)
-  body-below nests id parts (Some (PrefixedBox prefix body)) is told = absurd (cc)
-  body-below nests id parts (Some (MeasuredLeaf measure prim)) is told = absurd (cc)
-  body-below nests id parts (Some (MeasuredBox measure body)) is told = absurd (cc)
-  body-below nests id parts (Some (Repeat count body)) is told = absurd (cc)
-  body-below nests id parts (Some (Counted question body)) is told = absurd (cc)
-  body-below nests id parts (Some (Optional most item initiated body)) is told = absurd (cc)
-  body-below nests id parts (Some (Choice rows initiated)) is told = absurd (cc)
-  body-below nests id parts (Some (Dispatch question keys)) is told = absurd (cc)
-  body-below nests id parts (Some (Statement number)) is told = absurd (cc)
-  body-below nests id parts (Some (Concluded statements body)) is told = absurd (cc)
-  body-below nests id parts (Some (Hidden body)) is told = absurd (cc)
-  body-below nests id parts (Some (Separated policy position initiated slots)) is told = absurd (cc)
+      subst (λ (p : Option Parts). IfSome p (λ q. (q.body < id) × (q.occurrence ≡ occurrence))) told (less, refl)
+  body-below nests id occurrence parts (Some (Group children)) is told = absurd (cc)
+  body-below nests id occurrence parts (Some (Skip bits)) is told = absurd (cc)
+  body-below nests id occurrence parts (Some (Align bits)) is told = absurd (cc)
+  body-below nests id occurrence parts (Some (Initiator delimiter)) is told = absurd (cc)
+  body-below nests id occurrence parts (Some (Terminator delimiter separators)) is told = absurd (cc)
+  body-below nests id occurrence parts (Some Separator) is told = absurd (cc)
+  body-below nests id occurrence parts (Some (Scope list body)) is told = absurd (cc)
+  body-below nests id occurrence parts (Some (Boxed bits body)) is told = absurd (cc)
+  body-below nests id occurrence parts (Some (PrefixedLeaf prefix prim)) is told = absurd (cc)
+  body-below nests id occurrence parts (Some (PrefixedBox prefix body)) is told = absurd (cc)
+  body-below nests id occurrence parts (Some (MeasuredLeaf measure prim)) is told = absurd (cc)
+  body-below nests id occurrence parts (Some (MeasuredBox measure body)) is told = absurd (cc)
+  body-below nests id occurrence parts (Some (Repeat count body)) is told = absurd (cc)
+  body-below nests id occurrence parts (Some (Counted question body)) is told = absurd (cc)
+  body-below nests id occurrence parts (Some (Optional most item initiated body)) is told = absurd (cc)
+  body-below nests id occurrence parts (Some (Choice rows initiated)) is told = absurd (cc)
+  body-below nests id occurrence parts (Some (Dispatch question keys)) is told = absurd (cc)
+  body-below nests id occurrence parts (Some (Statement number)) is told = absurd (cc)
+  body-below nests id occurrence parts (Some (Concluded statements body)) is told = absurd (cc)
+  body-below nests id occurrence parts (Some (Hidden body)) is told = absurd (cc)
+  body-below nests id occurrence parts (Some (Spanned body)) is told = absurd (cc)
+  body-below nests id occurrence parts (Some (Instance statement body)) is told = absurd (cc)
+  body-below nests id occurrence parts (Some (Separated policy position initiated slots)) is told = absurd (cc)
 
   -- a representation that is done
   refused-trial : (held : Held) (marks : List Mark) (k : List Frame) (s : State)
@@ -206,17 +216,24 @@ module _ (input : Input) (table : Table) where
   failed-empty next true cause bit s = refl
   failed-empty next false cause bit s = refl
 
-  retry-ahead : Nests table.rows → (held : Held) (id : ℕ) (parts : Option Parts) (follows : Next) (cause : ParseCause) (bit : ℕ) (k : List Frame) (s : State)
-      → parts_of (slice_get table.rows id) ≡ parts
+  -- as what its row was asked
+  asked-as : (id : ℕ) (occurrence : Bool) (parts : Parts) → parts.occurrence ≡ occurrence → parts_of occurrence (slice_get table.rows id) ≡ Some parts
+      → parts_of parts.occurrence (slice_get table.rows id) ≡ Some parts
+  asked-as id occurrence parts same is = subst (λ (b : Bool). parts_of b (slice_get table.rows id) ≡ Some parts) (sym same) is
+
+  retry-ahead : Nests table.rows → (held : Held) (id : ℕ) (occurrence : Bool) (parts : Option Parts) (follows : Next) (cause : ParseCause) (bit : ℕ) (k : List Frame) (s : State)
+      → parts_of occurrence (slice_get table.rows id) ≡ parts
       → Does input table (finish input table k (retried input table id parts follows (ended (Failed cause bit) s)))
       (retry input.limits.nodes held id parts follows (Failed cause bit) k s)
-  retry-ahead nests held id None follows cause bit k s is = after_nothing input table k (ended (Failed cause bit) (closed s))
-  retry-ahead nests held id (Some parts) next.Empty cause bit k s is =
-      empty-ahead nothing held id parts k (back s) is (body-below nests id parts (slice_get table.rows id) refl is) parts.tried.empty
-  retry-ahead nests held id (Some parts) next.Normal cause bit k s is =
+  retry-ahead nests held id occurrence None follows cause bit k s is = after_nothing input table k (ended (Failed cause bit) (closed s))
+  retry-ahead nests held id occurrence (Some parts) next.Empty cause bit k s is =
+      let there = body-below nests id occurrence parts (slice_get table.rows id) refl is in
+      empty-ahead nothing held id parts k (back s) (asked-as id occurrence parts there.1 is) there.0 parts.tried.empty
+  retry-ahead nests held id occurrence (Some parts) next.Normal cause bit k s is =
+      let there = body-below nests id occurrence parts (slice_get table.rows id) refl is in
       ap (finish input table k) (failed-empty (then_normal (trial_of input table id parts)) parts.tried.refuses_empty cause bit s)
-      ∙ normal-ahead nothing held id parts k (back s) is (body-below nests id parts (slice_get table.rows id) refl is)
-  retry-ahead nests held id (Some parts) next.Nothing cause bit k s is = after_nothing input table k (ended (Failed cause bit) (closed s))
+      ∙ normal-ahead nothing held id parts k (back s) (asked-as id occurrence parts there.1 is) there.0
+  retry-ahead nests held id occurrence (Some parts) next.Nothing cause bit k s is = after_nothing input table k (ended (Failed cause bit) (closed s))
 
   -- fill begins
   enter-fill : (held : Held) (to : ℕ) (k : List Frame) (s : State) → (over inside : Bool)
@@ -333,12 +350,14 @@ module _ (input : Input) (table : Table) where
       ∙ rested-ahead sight low bit outer seen k s going
 
   -- a box ends, or its rest begins
-  leave-box : (held : Held) (outer : Outside) (k : List Frame) (s : State) (over : Bool) → nat_le s.stop s.at ≡ over
+  leave-box : (held : Held) (outer : Outside) (from : ℕ) (k : List Frame) (s : State) (over : Bool) → nat_le s.stop s.at ≡ over
       → Does input table
-      (finish input table k (let o : Outcome = cond over (ended Done s) (pass_bytes input (bytes_up_to s.stop (s.at / 8)) (s.at / 8) s) in unboxed o.end outer.stop outer.hidden o))
-      (cond over (pass nothing held (Leave Done) k (back_outside outer s)) (pass nothing held (PassRest s.at outer) k s))
-  leave-box held outer k s true is = after_nothing input table k (ended Done (back_outside outer s))
-  leave-box held outer k s false is = after_nothing input table k (focused input table (PassRest s.at outer) s)
+      (finish input table k
+      (let o : Outcome = cond over (ended Done (filled_from from s)) (pass_bytes input (bytes_up_to s.stop (s.at / 8)) (s.at / 8) (filled_from from s)) in
+      unboxed o.end outer.stop outer.hidden o))
+      (cond over (pass nothing held (Leave Done) k (back_outside outer (filled_from from s))) (pass nothing held (PassRest s.at outer) k (filled_from from s)))
+  leave-box held outer from k s true is = after_nothing input table k (ended Done (back_outside outer (filled_from from s)))
+  leave-box held outer from k s false is = after_nothing input table k (focused input table (PassRest s.at outer) (filled_from from s))
 
   group-ahead : (held : Held) (id : ℕ) (children : List ℕ) (k : List Frame) (s : State) → children_of (slice_get table.rows id) ≡ children
       → All (λ c. c < id) children
@@ -397,6 +416,7 @@ module _ (input : Input) (table : Table) where
   statement-ahead held id number (Some (Calculation calculation)) k s sees going =
       stated-ahead held (At s.inside) number (Some (Calculation calculation)) k s
   statement-ahead held id number (Some (Question question)) k s sees going = stated-ahead held (Inside s.inside) number (Some (Question question)) k s
+  statement-ahead held id number (Some (Opening opening)) k s sees going = stated-ahead held (Inside s.inside) number (Some (Opening opening)) k s
 
   -- the window shows the data at a leaf
   sees : {focus : Focus} (held : Held) (s : State) → Anchored held s → Fits held input focus s → Sees held input s
@@ -428,7 +448,16 @@ module _ (input : Input) (table : Table) where
   children-below nests id (Some (Statement number)) is = λ i row less. absurd (omega arith)
   children-below nests id (Some (Concluded statements body)) is = λ i row less. absurd (omega arith)
   children-below nests id (Some (Hidden body)) is = λ i row less. absurd (omega arith)
+  children-below nests id (Some (Spanned body)) is = λ i row less. absurd (omega arith)
+  children-below nests id (Some (Instance statement body)) is = λ i row less. absurd (omega arith)
   children-below nests id (Some (Separated policy position initiated slots)) is = λ i row less. absurd (omega arith)
+
+  span-ahead : (held : Held) (id body : ℕ) (k : List Frame) (s : State) → body < id
+      → Does input table (finish input table k (spend one_row (spanned (below input table id body) s))) (pass one_row held (Enter body) (Spanning s.at ∷ k) s)
+  unfolding finish
+  span-ahead held id body k s less =
+      finish-spend input table k one_row (spanned (below input table id body) s)
+      ∙ ap (λ (o : Outcome). spend one_row (finish input table k (then_do o (span_ends s.at)))) (below-meaning input table id body s less)
 
   enter-ahead : Nests table.rows → (held : Held) (id : ℕ) (r : Option Row) (k : List Frame) (s : State) → slice_get table.rows id ≡ r → Fits held input (Enter id) s
       → (enter input.limits table held id r k s).waits ≡ false
@@ -441,8 +470,9 @@ module _ (input : Input) (table : Table) where
       let less : body < id = nests id (Elem name simple tried statements body) (slice_get_within table.rows id (Elem name simple tried statements body) is) is in
       let start : Start = At (length s.nodes) in
       behind-ahead statements start k one_row (element input id (has_elements simple) tried (below input table id body) s)
-      ∙ element-ahead held id (record { complex = has_elements simple; tried = tried; body = body }) (with_behind statements start k) s (ap parts_of is) less
-      tried.are_several
+      ∙ element-ahead held id (parts_here s.instead (has_elements simple) tried body) (with_behind statements start k) s
+      (ap (parts_of (is_occurrence s.instead)) is) less
+      (parts_here s.instead (has_elements simple) tried body).tried.are_several
   enter-ahead nests held id (Some (Group children)) k s is fits going =
       group-ahead held id children k s (ap children_of is) (nests id (Group children) (slice_get_within table.rows id (Group children) is) is)
   enter-ahead nests held id (Some (Skip bits)) k s is fits going = enter-fill held (s.at + bits) k s (nat_le (s.at + bits) s.at) (nat_le (s.at + bits) s.stop)
@@ -503,6 +533,12 @@ module _ (input : Input) (table : Table) where
       let less : body < id = nests id (Hidden body) (slice_get_within table.rows id (Hidden body) is) is in
       finish-spend input table k one_row (below input table id body s)
       ∙ ap (λ (o : Outcome). spend one_row (finish input table k o)) (below-meaning input table id body s less)
+  enter-ahead nests held id (Some (Spanned body)) k s is fits going =
+      let less : body < id = nests id (Spanned body) (slice_get_within table.rows id (Spanned body) is) is in
+      span-ahead held id body k s less
+  enter-ahead nests held id (Some (Instance statement body)) k s is fits going =
+      let less : body < id = nests id (Instance statement body) (slice_get_within table.rows id (Instance statement body) is) is in
+      instanced-ahead input table held id statement body k s less
   enter-ahead nests held id (Some (Separated policy position initiated slots)) k s is fits going =
       separated-ahead input table held id policy position initiated slots k s is
       (all-below id slots (nests id (Separated policy position initiated slots) (slice_get_within table.rows id (Separated policy position initiated slots) is) is))
@@ -532,19 +568,23 @@ module _ (input : Input) (table : Table) where
   leave-ahead nests held (Element outer complex) Done k s = after_nothing input table k (ended Done (left outer complex s))
   leave-ahead nests held (Element outer complex) (Failed cause bit) k s = after_nothing input table k (ended (Failed cause bit) s)
   leave-ahead nests held (Element outer complex) (Stopped cause quantity) k s = after_nothing input table k (ended (Stopped cause quantity) s)
-  leave-ahead nests held (Box outer) Done k s =
-      ap (λ (o : Outcome). finish input table k (unboxed o.end outer.stop outer.hidden o)) (spend-nothing (rest input s))
-      ∙ leave-box held outer k s (nat_le s.stop s.at) refl
-  leave-ahead nests held (Box outer) (Failed cause bit) k s = after_nothing input table k (ended (Failed cause bit) (hides outer.hidden s))
-  leave-ahead nests held (Box outer) (Stopped cause quantity) k s = after_nothing input table k (ended (Stopped cause quantity) s)
+  leave-ahead nests held (Box outer from) Done k s =
+      ap (λ (o : Outcome). finish input table k (unboxed o.end outer.stop outer.hidden o)) (spend-nothing (rest_from input from s))
+      ∙ leave-box held outer from k s (nat_le s.stop s.at) refl
+  leave-ahead nests held (Box outer from) (Failed cause bit) k s = after_nothing input table k (ended (Failed cause bit) (hides outer.hidden s))
+  leave-ahead nests held (Box outer from) (Stopped cause quantity) k s = after_nothing input table k (ended (Stopped cause quantity) s)
+  leave-ahead nests held (Spanning from) Done k s =
+      ap (finish input table k) (spend-nothing (span_ends from s)) ∙ after_nothing input table k (span_ends from s)
+  leave-ahead nests held (Spanning from) (Failed cause bit) k s = after_nothing input table k (ended (Failed cause bit) s)
+  leave-ahead nests held (Spanning from) (Stopped cause quantity) k s = after_nothing input table k (ended (Stopped cause quantity) s)
   leave-ahead nests held (ScopeFrame count) Done k s = after_nothing input table k (ended Done (closes_to count s))
   leave-ahead nests held (ScopeFrame count) (Failed cause bit) k s = after_nothing input table k (ended (Failed cause bit) (closes_to count s))
   leave-ahead nests held (ScopeFrame count) (Stopped cause quantity) k s = after_nothing input table k (ended (Stopped cause quantity) s)
-  leave-ahead nests held (Trial id next) Done k s = done-trial held id (parts_of (slice_get table.rows id)) next k s
-  leave-ahead nests held (Trial id next) (Failed cause bit) k s =
-      retry-ahead nests held id (parts_of (slice_get table.rows id)) next cause bit k s refl
-  leave-ahead nests held (Trial id next) (Stopped cause quantity) k s =
-      ap (finish input table k) (stopped-trial id (parts_of (slice_get table.rows id)) next cause quantity s)
+  leave-ahead nests held (Trial id occurrence next) Done k s = done-trial held id (parts_of occurrence (slice_get table.rows id)) next k s
+  leave-ahead nests held (Trial id occurrence next) (Failed cause bit) k s =
+      retry-ahead nests held id occurrence (parts_of occurrence (slice_get table.rows id)) next cause bit k s refl
+  leave-ahead nests held (Trial id occurrence next) (Stopped cause quantity) k s =
+      ap (finish input table k) (stopped-trial id (parts_of occurrence (slice_get table.rows id)) next cause quantity s)
       ∙ after_nothing input table k (ended (Stopped cause quantity) s)
   leave-ahead nests held (Branch id next) Done k s = after_nothing input table k (ended Done (closed s))
   leave-ahead nests held (Branch id next) (Failed cause bit) k s =
@@ -552,8 +592,8 @@ module _ (input : Input) (table : Table) where
       failed-branch-ahead input table held id next rows (slice_get rows next) cause bit k s refl (children-below nests id (slice_get table.rows id) refl) refl
       (is_settled s.marks)
   leave-ahead nests held (Branch id next) (Stopped cause quantity) k s = after_nothing input table k (ended (Stopped cause quantity) s)
-  leave-ahead nests held (Occurrence body initiated left) Done k s = passed-ahead input table held body initiated left k s (stays_at s.marks s.at)
-  leave-ahead nests held (Occurrence body initiated left) (Failed cause bit) k s = failed-occurrence-ahead input table held cause bit k s (is_settled s.marks)
+  leave-ahead nests held (Occurrence body initiated left) Done k s = passed-ahead input table held body initiated left k (as_normal s) (stays_at s.marks s.at)
+  leave-ahead nests held (Occurrence body initiated left) (Failed cause bit) k s = failed-occurrence-ahead input table held cause bit k (as_normal s) (is_settled s.marks)
   leave-ahead nests held (Occurrence body initiated left) (Stopped cause quantity) k s = after_nothing input table k (ended (Stopped cause quantity) s)
   leave-ahead nests held (Times body left) Done k s = time-ahead input table held body left k s
   leave-ahead nests held (Times body left) (Failed cause bit) k s = after_nothing input table k (ended (Failed cause bit) s)
@@ -564,9 +604,9 @@ module _ (input : Input) (table : Table) where
   leave-ahead nests held (Before slot) (Stopped cause quantity) k s =
       before_stopped-ahead input table held slot k s cause quantity
   leave-ahead nests held (Content slot bit empty) Done k s =
-      content_done-ahead input table held slot k s bit empty (slots_from table slot) refl (slots-below table nests slot)
+      content_done-ahead input table held slot k (as_normal s) bit empty (slots_from table slot) refl (slots-below table nests slot)
   leave-ahead nests held (Content slot bit empty) (Failed cause at) k s =
-      content_failed-ahead input table held slot k s bit empty cause at (slots_from table slot) refl (slots-below table nests slot)
+      content_failed-ahead input table held slot k (as_normal s) bit empty cause at (slots_from table slot) refl (slots-below table nests slot)
   leave-ahead nests held (Content slot bit empty) (Stopped cause quantity) k s =
       content_stopped-ahead input table held slot k s bit empty cause quantity
   leave-ahead nests held (Closing slot bit) Done k s =
@@ -575,10 +615,16 @@ module _ (input : Input) (table : Table) where
       closing_failed-ahead input table held slot k s bit cause at (slots_from table slot) refl (slots-below table nests slot)
   leave-ahead nests held (Closing slot bit) (Stopped cause quantity) k s =
       closing_stopped-ahead input table held slot k s bit cause quantity
+  leave-ahead nests held (Aside slot) Done k s = beside-ahead input table held slot k s (slots-below table nests slot)
+  leave-ahead nests held (Aside slot) (Failed cause bit) k s = after_nothing input table k (ended (Failed cause bit) s)
+  leave-ahead nests held (Aside slot) (Stopped cause quantity) k s = after_nothing input table k (ended (Stopped cause quantity) s)
   leave-ahead nests held (Concluding statements start) Done k s = after_nothing input table k (behind_done input.limits table statements start s)
   leave-ahead nests held (Concluding statements start) (Failed cause bit) k s =
       after_nothing input table k (ended (Failed cause bit) (reconsidered_from table start statements.first statements.count s))
   leave-ahead nests held (Concluding statements start) (Stopped cause quantity) k s = after_nothing input table k (ended (Stopped cause quantity) s)
+  leave-ahead nests held InstanceFrame Done k s = after_nothing input table k (ended Done (instance_closed s))
+  leave-ahead nests held InstanceFrame (Failed cause bit) k s = after_nothing input table k (ended (Failed cause bit) (instance_closed s))
+  leave-ahead nests held InstanceFrame (Stopped cause quantity) k s = after_nothing input table k (ended (Stopped cause quantity) s)
 
   pub step-ahead : Nests table.rows → (held : Held) (focus : Focus) (k : List Frame) (s : State) → Fits held input focus s
       → (step input.limits table held focus k s).waits ≡ false
@@ -595,5 +641,7 @@ module _ (input : Input) (table : Table) where
       look_in-ahead input table held slot k s fits.agrees fits.size fits.stands (slots_from table slot) refl (slots-below table nests slot) going
   step-ahead nests held (LookBehind slot bit) k s fits going =
       look_behind-ahead input table held slot k s fits.agrees fits.size fits.stands bit (slots_from table slot) refl (slots-below table nests slot) going
+  step-ahead nests held (Count slot question) k s fits going =
+      count-ahead input table held slot question k s (slots_from table slot) refl (slots-below table nests slot)
   step-ahead nests held (Leave end) [] s fits going = after_nothing input table [] (ended end s)
   step-ahead nests held (Leave end) (frame ∷ k) s fits going = leave-ahead nests held frame end k s

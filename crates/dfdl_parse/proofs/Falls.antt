@@ -12,7 +12,7 @@ use Rattle.dfdl_terms.specs.declared.delimiters.Delimiters.{Delimiters}
 use Rattle.dfdl_terms.specs.declared.row.Primitive.{Primitive}
 use Rattle.dfdl_delims.specs.Longest.{Longest}
 use Rattle.dfdl_terms.specs.declared.row.Row.{Row}
-use Rattle.dfdl_terms.specs.declared.row.Row.TheVariants.{Leaf, Elem, Group, Skip, Align, Initiator, Terminator, Separator, Scope, Boxed, PrefixedLeaf, PrefixedBox, MeasuredLeaf, MeasuredBox, Repeat, Counted, Optional, Choice, Dispatch, Statement, Concluded, Hidden, Separated}
+use Rattle.dfdl_terms.specs.declared.row.Row.TheVariants.{Leaf, Elem, Group, Skip, Align, Initiator, Terminator, Separator, Scope, Boxed, PrefixedLeaf, PrefixedBox, MeasuredLeaf, MeasuredBox, Repeat, Counted, Optional, Choice, Dispatch, Statement, Concluded, Hidden, Spanned, Instance, Separated}
 use Rattle.dfdl_terms.specs.Rows.{Table, Nests}
 use Rattle.dfdl_looks.specs.Asks.{Reached, Told, TooFar, Missing, Reading, ask}
 use Rattle.dfdl_looks.specs.Tallies.{Tally, needs_from, nothing, one_row, saw_byte}
@@ -22,7 +22,7 @@ use Rattle.dfdl_grammar.specs.declared.end.Halt.TheVariants.{Limit}
 use Rattle.dfdl_grammar.specs.declared.limits.Limits.{Limits}
 use Rattle.dfdl_grammar.specs.States.{Input, State, anchor, anchor_at}
 use Rattle.dfdl_grammar.specs.Marks.{back, closed, is_settled, marked, pointed, stays_at}
-use Rattle.dfdl_grammar.specs.Occurrences.{dropped}
+use Rattle.dfdl_grammar.specs.Occurrences.{as_normal, as_tried, dropped}
 use Rattle.dfdl_grammar.specs.declared.mark.Mark.{Mark}
 use Rattle.dfdl_grammar.specs.declared.instead.Instead.{Instead}
 use Rattle.dfdl_grammar.specs.declared.instead.Instead.TheVariants.{Nothing, Nil, Empty}
@@ -31,17 +31,17 @@ use Rattle.dfdl_terms.specs.declared.text.TextSize.{TextSize}
 use Rattle.dfdl_grammar.specs.Leaves.{Find, Fails, Finds, FindsOctets, FindsText, content_begins, has_room, nil_values, program, program_for, read_by}
 use Rattle.dfdl_grammar.specs.Prefixes.{bits_of_units, resized, size_of, units_told}
 use Rattle.dfdl_grammar.specs.Framing.{aligned}
-use Rattle.dfdl_grammar.specs.Boxes.{boxed_at}
+use Rattle.dfdl_grammar.specs.Boxes.{boxed_at, filled_from}
 use Rattle.dfdl_grammar.specs.Delimiters.{lists_of, markup, sought_among, stands_in}
 use Rattle.dfdl_grammar.specs.Elements.{begun, has_elements}
 use Rattle.dfdl_parse.specs.declared.frame.Frame.{Frame}
-use Rattle.dfdl_parse.specs.declared.frame.Frame.TheVariants.{Rest, Element, Box, Scope as ScopeFrame, Trial, Branch, Occurrence, Times, Before, Content, Closing, Concluding}
+use Rattle.dfdl_parse.specs.declared.frame.Frame.TheVariants.{Rest, Element, Box, Spanning, Scope as ScopeFrame, Trial, Branch, Occurrence, Times, Before, Content, Closing, Aside, Concluding, Instance as InstanceFrame}
 use Rattle.dfdl_parse.specs.declared.frame.Outside.{Outside}
 use Rattle.dfdl_parse.specs.declared.frame.Next.{Next}
 use Rattle.dfdl_parse.specs.declared.frame.Next.TheVariants as next
 use Rattle.dfdl_parse.specs.declared.frame.Parts.{Parts}
 use Rattle.dfdl_parse.specs.declared.frame.Focus.{Focus}
-use Rattle.dfdl_parse.specs.declared.frame.Focus.TheVariants.{Enter, Pass, PassRest, Sized, Seek, LookIn, LookBehind, Leave}
+use Rattle.dfdl_parse.specs.declared.frame.Focus.TheVariants.{Enter, Pass, PassRest, Sized, Seek, LookIn, LookBehind, Count, Leave}
 use Rattle.dfdl_parse.specs.declared.frame.Behind.TheVariants as behind
 use Rattle.dfdl_parse.specs.Boxing.{back_outside, outside}
 use Rattle.dfdl_parse.specs.declared.frame.Sought.{Sought}
@@ -50,15 +50,16 @@ use Rattle.dfdl_parse.specs.Searches.{among, found_text, is_cut, place_of}
 use Rattle.dfdl_parse.specs.Moves.{Machine, Move, is_missing, landed, pass, read_leaf, read_move}
 use Rattle.dfdl_parse.specs.Prefixed.{at_end, behind_units, can_fit, landed_prefix, prefix_move, read_prefix, read_resized, read_sized, sized_begins, units_begin}
 use Rattle.dfdl_parse.specs.Machines.{HasEnded, children_of, enter, enter_group, fill_move, go_on, leave, rest_move, seen_beyond, step}
-use Rattle.dfdl_parse.specs.Trials.{attempt, parts_of, refused, retry, trial_done, try_empty, try_nil, try_normal, two_rows}
+use Rattle.dfdl_parse.specs.Trials.{attempt, parts_here, parts_of, refused, retry, trial_done, try_empty, try_nil, try_normal, two_rows}
 use Rattle.dfdl_parse.specs.Points.{try_branch, try_occurrence}
 use Rattle.dfdl_parse.specs.Testing.{is_unknown, landed_test, read_test, verdict_in}
 use Rattle.dfdl_parse.specs.Stating.{make_statement, with_behind}
 use Rattle.dfdl_terms.specs.declared.statement.Statement.{Statement as AnyStatement}
-use Rattle.dfdl_terms.specs.declared.statement.Statement.TheVariants.{Pattern, Expression, Setting, Calculation, Question}
+use Rattle.dfdl_terms.specs.declared.statement.Statement.TheVariants.{Pattern, Expression, Setting, Calculation, Question, Opening}
 use Rattle.dfdl_paths.specs.declared.place.Start.TheVariants.{At, Inside}
 use Rattle.dfdl_parse.proofs.Stated.{few-behind}
 use Rattle.dfdl_parse.proofs.Asked.{counted-has, dispatch-has, measured-has, times-have}
+use Rattle.dfdl_parse.proofs.InstanceSteps.{instanced-has}
 use Rattle.dfdl_terms.specs.declared.statement.PatternTest.{PatternTest}
 use Rattle.dfdl_texts.specs.Texts.{Text}
 use Rattle.dfdl_grammar.specs.Leaves.{text_sought}
@@ -67,7 +68,7 @@ use Rattle.dfdl_grammar.specs.Slots.{is_empty_at, separator_follows}
 use Rattle.dfdl_terms.specs.declared.slots.Slot.{Slot}
 use Rattle.dfdl_parse.specs.declared.frame.SlotPlace.{SlotPlace}
 use Rattle.dfdl_parse.specs.Slots.{content_ended, look_behind, look_in, occurs, separation_at, settled, slots_from, told_move}
-use Rattle.dfdl_parse.proofs.SlotComes.{Ways, closing-has, content_ended-has, done-has, failed-has, separated-has, settled-has}
+use Rattle.dfdl_parse.proofs.SlotComes.{Ways, beside-has, closing-has, content_ended-has, count-has, done-has, failed-has, separated-has, settled-has}
 use Rattle.dfdl_parse.proofs.Finishes.{Fits}
 use Rattle.dfdl_parse.proofs.Ahead.{step-ahead}
 
@@ -80,6 +81,7 @@ mode (Sized prim size) = 4
 mode (Seek what) = 4
 mode (LookIn slot) = 4
 mode (LookBehind slot bit) = 5
+mode (Count slot question) = 4
 mode (Leave end) = 3
 
 -- what is left to be done over some data
@@ -144,6 +146,8 @@ slot-ways cost held k bound some = record {
   looks = λ slot t any. omega arith;
   enters = λ slot body bit empty t any. omega arith;
   seeks = λ slot t any. omega arith;
+  counts = λ slot question t any. omega arith;
+  besides = λ slot body t any. omega arith;
 }
 
 -- and of those that have ended
@@ -165,7 +169,7 @@ begun-falls prim size (Some primitive) k s = by (can_fit size s.at s.stop)
     by false = omega arith
 
 box-begun-falls : (bits body : ℕ) (k : List Frame) (s : State) (inside : Bool)
-    → left_of (cond inside (record { focus = Enter body; stack = Box (outside s) ∷ k; state = boxed_at (s.at + bits) s }) (at_end (Failed LengthOutOfRange s.at) k s)) ≤ 3 * length k + 4
+    → left_of (cond inside (record { focus = Enter body; stack = Box (outside s) s.at ∷ k; state = boxed_at (s.at + bits) s }) (at_end (Failed LengthOutOfRange s.at) k s)) ≤ 3 * length k + 4
 box-begun-falls bits body k s true = omega arith
 box-begun-falls bits body k s false = omega arith
 
@@ -190,9 +194,9 @@ module _ (limits : Limits) (delimiters : List Delimiters) (id own : ℕ) (next :
 
   prefix-landed-falls : (first : ℕ) (reached : Reached Find) (s : State) → left_of (landed_prefix limits id own first next reached k s) ≤ 3 * length k + 4
   prefix-landed-falls first (Told (Fails cause)) s = omega arith
-  prefix-landed-falls first (Told (Finds content end)) s = units-falls end (units_told own content) s
-  prefix-landed-falls first (Told (FindsOctets bytes end)) s = omega arith
-  prefix-landed-falls first (Told (FindsText bytes end)) s = omega arith
+  prefix-landed-falls first (Told (Finds content span)) s = units-falls span.end (units_told own content) s
+  prefix-landed-falls first (Told (FindsOctets bytes span)) s = omega arith
+  prefix-landed-falls first (Told (FindsText bytes span)) s = omega arith
   prefix-landed-falls first TooFar s = omega arith
   prefix-landed-falls first Missing s = omega arith
 
@@ -227,15 +231,15 @@ module _ (cost : Tally) (most : ℕ) (held : Held) (id : ℕ) (parts : Parts) (k
   HasLess move = left_of move.machine < 16 * (move.tally.rows + move.tally.looks) + bound
 
   normal-falls : HasLess (try_normal cost most held id parts k s)
-  normal-falls = attempt-falls cost most held id parts Nothing (Trial id next.Nothing ∷ k) s bound (omega arith) (nat_lt (length s.nodes) most)
+  normal-falls = attempt-falls cost most held id parts Nothing (Trial id parts.occurrence next.Nothing ∷ k) s bound (omega arith) (nat_lt (length s.nodes) most)
 
   empty-falls : (empty : Option ℕ) → HasLess (try_empty cost most held id parts empty k s)
   empty-falls None = normal-falls
-  empty-falls (Some prim) = attempt-falls cost most held id parts (Empty prim) (Trial id next.Normal ∷ k) s bound (omega arith) (nat_lt (length s.nodes) most)
+  empty-falls (Some prim) = attempt-falls cost most held id parts (Empty prim) (Trial id parts.occurrence next.Normal ∷ k) s bound (omega arith) (nat_lt (length s.nodes) most)
 
   nil-falls : (nil : Option ℕ) → HasLess (try_nil cost most held id parts nil k s)
   nil-falls None = empty-falls parts.tried.empty
-  nil-falls (Some prim) = attempt-falls cost most held id parts (Nil prim) (Trial id next.Empty ∷ k) s bound (omega arith) (nat_lt (length s.nodes) most)
+  nil-falls (Some prim) = attempt-falls cost most held id parts (Nil prim) (Trial id parts.occurrence next.Empty ∷ k) s bound (omega arith) (nat_lt (length s.nodes) most)
 
 element-falls : (most : ℕ) (held : Held) (id : ℕ) (parts : Parts) (k : List Frame) (s : State) (bound : ℕ) → 3 * length k + 6 < 32 + bound → (several : Bool)
     → HasFallen bound (cond several
@@ -243,30 +247,30 @@ element-falls : (most : ℕ) (held : Held) (id : ℕ) (parts : Parts) (k : List 
 element-falls most held id parts k s bound few true = nil-falls two_rows most held id parts k (marked s) bound (omega arith) parts.tried.nil
 element-falls most held id parts k s bound few false = attempt-falls two_rows most held id parts Nothing k s bound (omega arith) (nat_lt (length s.nodes) most)
 
-retry-falls : (most : ℕ) (held : Held) (id : ℕ) (parts : Option Parts) (follows : Next) (end : End) (k : List Frame) (s : State)
-    → Falls (Leave end) (Trial id follows ∷ k) (retry most held id parts follows end k s)
-retry-falls most held id None follows end k s = omega arith
-retry-falls most held id (Some parts) next.Empty end k s =
-    empty-falls one_row most held id parts k (back s) (3 * length (Trial id next.Empty ∷ k) + mode (Leave end)) (omega arith) parts.tried.empty
-retry-falls most held id (Some parts) next.Normal end k s = normal-falls one_row most held id parts k (back s) (3 * length (Trial id next.Normal ∷ k) + mode (Leave end)) (omega arith)
-retry-falls most held id (Some parts) next.Nothing end k s = omega arith
+retry-falls : (most : ℕ) (held : Held) (id : ℕ) (occurrence : Bool) (parts : Option Parts) (follows : Next) (end : End) (k : List Frame) (s : State)
+    → Falls (Leave end) (Trial id occurrence follows ∷ k) (retry most held id parts follows end k s)
+retry-falls most held id occurrence None follows end k s = omega arith
+retry-falls most held id occurrence (Some parts) next.Empty end k s =
+    empty-falls one_row most held id parts k (back s) (3 * length (Trial id occurrence next.Empty ∷ k) + mode (Leave end)) (omega arith) parts.tried.empty
+retry-falls most held id occurrence (Some parts) next.Normal end k s = normal-falls one_row most held id parts k (back s) (3 * length (Trial id occurrence next.Normal ∷ k) + mode (Leave end)) (omega arith)
+retry-falls most held id occurrence (Some parts) next.Nothing end k s = omega arith
 
 -- a representation that is done
-refused-falls : (held : Held) (id : ℕ) (follows : Next) (marks : List Mark) (k : List Frame) (s : State) → Falls (Leave Done) (Trial id follows ∷ k) (refused marks held k s)
-refused-falls held id follows [] k s = omega arith
-refused-falls held id follows (mark ∷ outer) k s = omega arith
+refused-falls : (held : Held) (id : ℕ) (occurrence : Bool) (follows : Next) (marks : List Mark) (k : List Frame) (s : State) → Falls (Leave Done) (Trial id occurrence follows ∷ k) (refused marks held k s)
+refused-falls held id occurrence follows [] k s = omega arith
+refused-falls held id occurrence follows (mark ∷ outer) k s = omega arith
 
-empty-found-falls : (held : Held) (id : ℕ) (follows : Next) (refuses : Bool) (k : List Frame) (s : State)
-    → Falls (Leave Done) (Trial id follows ∷ k) (cond refuses (refused s.marks held k s) (pass nothing held (Leave Done) k (closed s)))
-empty-found-falls held id follows true k s = refused-falls held id follows s.marks k s
-empty-found-falls held id follows false k s = omega arith
+empty-found-falls : (held : Held) (id : ℕ) (occurrence : Bool) (follows : Next) (refuses : Bool) (k : List Frame) (s : State)
+    → Falls (Leave Done) (Trial id occurrence follows ∷ k) (cond refuses (refused s.marks held k s) (pass nothing held (Leave Done) k (closed s)))
+empty-found-falls held id occurrence follows true k s = refused-falls held id occurrence follows s.marks k s
+empty-found-falls held id occurrence follows false k s = omega arith
 
-done-falls : (held : Held) (id : ℕ) (parts : Option Parts) (follows : Next) (k : List Frame) (s : State)
-    → Falls (Leave Done) (Trial id follows ∷ k) (trial_done held parts follows k s)
-done-falls held id None follows k s = omega arith
-done-falls held id (Some parts) next.Empty k s = omega arith
-done-falls held id (Some parts) next.Normal k s = empty-found-falls held id next.Normal parts.tried.refuses_empty k s
-done-falls held id (Some parts) next.Nothing k s = omega arith
+done-falls : (held : Held) (id : ℕ) (occurrence : Bool) (parts : Option Parts) (follows : Next) (k : List Frame) (s : State)
+    → Falls (Leave Done) (Trial id occurrence follows ∷ k) (trial_done held parts follows k s)
+done-falls held id occurrence None follows k s = omega arith
+done-falls held id occurrence (Some parts) next.Empty k s = omega arith
+done-falls held id occurrence (Some parts) next.Normal k s = empty-found-falls held id occurrence next.Normal parts.tried.refuses_empty k s
+done-falls held id occurrence (Some parts) next.Nothing k s = omega arith
 
 -- a branch, where its cost is enough for what it puts on the stack
 branch-falls : (cost : Tally) (held : Held) (id place : ℕ) (child : Option ℕ) (k : List Frame) (s : State) (bound : ℕ)
@@ -279,7 +283,7 @@ branch-falls cost held id place (Some child) k s bound some = omega arith
 -- the same of an occurrence
 begun-occurrence-falls : (cost : Tally) (held : Held) (body : ℕ) (initiated : Bool) (left : ℕ) (k : List Frame) (s : State) (bound : ℕ)
     → 3 * length k + 3 < 16 * (cost.rows + cost.looks) + bound → (none : Bool)
-    → let move : Move = cond none (pass cost held (Leave Done) k s) (pass cost held (Enter body) (Occurrence body initiated (left - 1) ∷ k) (pointed initiated s)) in
+    → let move : Move = cond none (pass cost held (Leave Done) k s) (pass cost held (Enter body) (Occurrence body initiated (left - 1) ∷ k) (as_tried (pointed initiated s))) in
     left_of move.machine < 16 * (move.tally.rows + move.tally.looks) + bound
 begun-occurrence-falls cost held body initiated left k s bound some true = omega arith
 begun-occurrence-falls cost held body initiated left k s bound some false = omega arith
@@ -319,6 +323,7 @@ statement-falls limits table held id number (Some (Expression test)) k s going =
 statement-falls limits table held id number (Some (Setting setting)) k s going = omega arith
 statement-falls limits table held id number (Some (Calculation calculation)) k s going = omega arith
 statement-falls limits table held id number (Some (Question question)) k s going = omega arith
+statement-falls limits table held id number (Some (Opening opening)) k s going = omega arith
 
 passed-falls : (held : Held) (body : ℕ) (initiated : Bool) (left : ℕ) (k : List Frame) (s : State) (stays : Bool)
     → Falls (Leave Done) (Occurrence body initiated left ∷ k)
@@ -350,11 +355,11 @@ begin-falls held id to k s true inside = omega arith
 begin-falls held id to k s false true = omega arith
 begin-falls held id to k s false false = omega arith
 
-leave-box-falls : (held : Held) (outer : Outside) (k : List Frame) (s : State) (over : Bool)
-    → Falls (Leave Done) (Box outer ∷ k)
-    (cond over (pass nothing held (Leave Done) k (back_outside outer s)) (pass nothing held (PassRest s.at outer) k s))
-leave-box-falls held outer k s true = omega arith
-leave-box-falls held outer k s false = omega arith
+leave-box-falls : (held : Held) (outer : Outside) (from : ℕ) (k : List Frame) (s : State) (over : Bool)
+    → Falls (Leave Done) (Box outer from ∷ k)
+    (cond over (pass nothing held (Leave Done) k (back_outside outer (filled_from from s))) (pass nothing held (PassRest s.at outer) k (filled_from from s)))
+leave-box-falls held outer from k s true = omega arith
+leave-box-falls held outer from k s false = omega arith
 
 past-falls : (sight : Held) (low bit byte : ℕ) (outer : Outside) (k : List Frame) (s : State) (last : Bool)
     → Falls (PassRest bit outer) k (cond last (pass (needs_from low (saw_byte byte nothing)) sight (Leave Done) k (back_outside outer (record s { at = s.stop })))
@@ -384,8 +389,8 @@ enter-falls limits table held id (Some (Leaf prim)) k s going =
     (slice_get table.primitives (read_by table.primitives s.instead prim)) k s (omega arith) going
 enter-falls limits table held id (Some (Elem name simple tried statements body)) k s going =
     let few = few-behind statements (At (length s.nodes)) k in
-    element-falls limits.nodes held id (record { complex = has_elements simple; tried = tried; body = body }) (with_behind statements (At (length s.nodes)) k) s
-    (3 * length k + mode (Enter id)) (omega arith) tried.are_several
+    element-falls limits.nodes held id (parts_here s.instead (has_elements simple) tried body) (with_behind statements (At (length s.nodes)) k) s
+    (3 * length k + mode (Enter id)) (omega arith) (parts_here s.instead (has_elements simple) tried body).tried.are_several
 enter-falls limits table held id (Some (Group children)) k s going = group-falls held id children k s
 enter-falls limits table held id (Some (Skip bits)) k s going =
     begin-falls held id (s.at + bits) k s (nat_le (s.at + bits) s.at) (nat_le (s.at + bits) s.stop)
@@ -430,6 +435,10 @@ enter-falls limits table held id (Some (Dispatch question keys)) k s going =
 enter-falls limits table held id (Some (Statement number)) k s going = statement-falls limits table held id number (slice_get table.statements number) k s going
 enter-falls limits table held id (Some (Concluded statements body)) k s going = let few = few-behind statements (Inside s.inside) k in omega arith
 enter-falls limits table held id (Some (Hidden body)) k s going = omega arith
+enter-falls limits table held id (Some (Spanned body)) k s going = omega arith
+enter-falls limits table held id (Some (Instance statement body)) k s going =
+    let few = instanced-has (HasFew k) table body k s (λ variables why. ended-falls k) (λ variables. row-falls k) (λ variables. time-falls k) statement in
+    omega arith
 enter-falls limits table held id (Some (Separated policy position initiated slots)) k s going =
     separated-has (HasFallen (3 * length k + mode (Enter id))) Any held initiated k (λ here t any. tt)
     (slot-ways one_row held k (3 * length k + mode (Enter id)) (omega arith)) id policy position slots s tt
@@ -443,21 +452,24 @@ leave-falls limits table held (Rest id next) Done k s = go-falls held id next (s
 leave-falls limits table held (Rest id next) (Failed cause bit) k s = omega arith
 leave-falls limits table held (Element outer complex) Done k s = omega arith
 leave-falls limits table held (Element outer complex) (Failed cause bit) k s = omega arith
-leave-falls limits table held (Box outer) Done k s = leave-box-falls held outer k s (nat_le s.stop s.at)
-leave-falls limits table held (Box outer) (Failed cause bit) k s = omega arith
+leave-falls limits table held (Box outer from) Done k s = leave-box-falls held outer from k s (nat_le s.stop s.at)
+leave-falls limits table held (Box outer from) (Failed cause bit) k s = omega arith
+leave-falls limits table held (Spanning from) Done k s = omega arith
+leave-falls limits table held (Spanning from) (Failed cause bit) k s = omega arith
 leave-falls limits table held (ScopeFrame count) Done k s = omega arith
 leave-falls limits table held (ScopeFrame count) (Failed cause bit) k s = omega arith
-leave-falls limits table held (Trial id next) Done k s = done-falls held id (parts_of (slice_get table.rows id)) next k s
-leave-falls limits table held (Trial id next) (Failed cause bit) k s =
-    retry-falls limits.nodes held id (parts_of (slice_get table.rows id)) next (Failed cause bit) k s
+leave-falls limits table held (Trial id occurrence next) Done k s = done-falls held id occurrence (parts_of occurrence (slice_get table.rows id)) next k s
+leave-falls limits table held (Trial id occurrence next) (Failed cause bit) k s =
+    retry-falls limits.nodes held id occurrence (parts_of occurrence (slice_get table.rows id)) next (Failed cause bit) k s
 leave-falls limits table held (Branch id next) Done k s = omega arith
 leave-falls limits table held (Branch id next) (Failed cause bit) k s =
     failed-falls held (Branch id next) (Failed cause bit) k s (try_branch nothing held id next (slice_get (children_of (slice_get table.rows id)) next) k (back s))
     (branch-falls nothing held id next (slice_get (children_of (slice_get table.rows id)) next) k (back s)
     (3 * length (Branch id next ∷ k) + mode (Leave (Failed cause bit))) (omega arith)) (is_settled s.marks)
-leave-falls limits table held (Occurrence body initiated left) Done k s = passed-falls held body initiated left k s (stays_at s.marks s.at)
+leave-falls limits table held (Occurrence body initiated left) Done k s = passed-falls held body initiated left k (as_normal s) (stays_at s.marks s.at)
 leave-falls limits table held (Occurrence body initiated left) (Failed cause bit) k s =
-    failed-falls held (Occurrence body initiated left) (Failed cause bit) k s (pass nothing held (Leave Done) k (dropped s)) (omega arith) (is_settled s.marks)
+    failed-falls held (Occurrence body initiated left) (Failed cause bit) k (as_normal s) (pass nothing held (Leave Done) k (dropped (as_normal s))) (omega arith)
+    (is_settled s.marks)
 leave-falls limits table held (Times body left) Done k s =
     let few = times-have (HasFew k) body k s (ended-falls k) (λ more. time-falls k) left in omega arith
 leave-falls limits table held (Times body left) (Failed cause bit) k s = omega arith
@@ -469,9 +481,9 @@ leave-falls limits table held (Before slot) (Failed cause bit) k s =
     failed-has (HasFallen bound) Any held (separation_at table slot).initiated k (λ here t any. tt) (slot-ways nothing held k bound (omega arith))
     slot s tt (λ here. tt) (λ here. tt) (slots_from table slot) (Failed cause bit)
 leave-falls limits table held (Content slot bit empty) Done k s =
-    content-falls held (separation_at table slot).initiated k slot s bit empty (slots_from table slot) (nat_lt bit s.at) None Done
+    content-falls held (separation_at table slot).initiated k slot (as_normal s) bit empty (slots_from table slot) (nat_lt bit s.at) None Done
 leave-falls limits table held (Content slot bit empty) (Failed cause at) k s =
-    content-falls held (separation_at table slot).initiated k slot s bit empty (slots_from table slot) false (Some cause) (Failed cause at)
+    content-falls held (separation_at table slot).initiated k slot (as_normal s) bit empty (slots_from table slot) false (Some cause) (Failed cause at)
 leave-falls limits table held (Closing slot bit) Done k s =
     let bound : ℕ = 3 * length (Closing slot bit ∷ k) + mode (Leave Done) in
     closing-has (HasFallen bound) Any held (separation_at table slot).initiated k (λ here t any. tt) (slot-ways nothing held k bound (omega arith))
@@ -480,8 +492,15 @@ leave-falls limits table held (Closing slot bit) (Failed cause at) k s =
     let bound : ℕ = 3 * length (Closing slot bit ∷ k) + mode (Leave (Failed cause at)) in
     closing-has (HasFallen bound) Any held (separation_at table slot).initiated k (λ here t any. tt) (slot-ways nothing held k bound (omega arith))
     slot s tt (λ here. tt) (λ here. tt) bit (slots_from table slot) false (Failed cause at)
+leave-falls limits table held (Aside slot) Done k s =
+    let bound : ℕ = 3 * length (Aside slot ∷ k) + mode (Leave Done) in
+    beside-has (HasFallen bound) Any held (separation_at table slot).initiated k (λ here t any. tt) (slot-ways nothing held k bound (omega arith)) slot
+    (slots_from table slot) s tt
+leave-falls limits table held (Aside slot) (Failed cause bit) k s = omega arith
 leave-falls limits table held (Concluding statements start) Done k s = omega arith
 leave-falls limits table held (Concluding statements start) (Failed cause bit) k s = omega arith
+leave-falls limits table held InstanceFrame Done k s = omega arith
+leave-falls limits table held InstanceFrame (Failed cause bit) k s = omega arith
 leave-falls limits table held frame (Stopped cause quantity) k s = omega arith
 
 -- a question of a slot falls from the focus in which it waits
@@ -541,6 +560,10 @@ step-falls limits table held (LookIn slot) k s on going =
     look_in-falls limits table.delimiters held (separation_at table slot).initiated slot (slots_from table slot) k s going
 step-falls limits table held (LookBehind slot bit) k s on going =
     look_behind-falls limits table.delimiters held (separation_at table slot).initiated slot bit (slots_from table slot) k s going
+step-falls limits table held (Count slot question) k s on going =
+    let bound : ℕ = 3 * length k + mode (Count slot question) in
+    count-has (HasFallen bound) Any held (separation_at table slot).initiated k (λ here t any. tt) (slot-ways one_row held k bound (omega arith)) table slot
+    question (slots_from table slot) s tt (λ kept. tt)
 step-falls limits table held (Leave end) [] s on going = absurd (on refl)
 step-falls limits table held (Leave end) (frame ∷ k) s on going = leave-falls limits table held frame end k s
 

@@ -12,7 +12,7 @@ use Rattle.dfdl_grammar.specs.Documents.{document_from, front_at}
 use Rattle.dfdl_grammar.proofs.Spending.{spend-nothing}
 use Rattle.dfdl_parse.specs.declared.frame.Frame.{Frame}
 use Rattle.dfdl_parse.specs.declared.frame.Focus.{Focus}
-use Rattle.dfdl_parse.specs.declared.frame.Focus.TheVariants.{Enter, Pass, PassRest, Sized, Seek, LookIn, LookBehind, Leave}
+use Rattle.dfdl_parse.specs.declared.frame.Focus.TheVariants.{Enter, Pass, PassRest, Sized, Seek, LookIn, LookBehind, Count, Leave}
 use Rattle.dfdl_parse.specs.declared.parser.Parser.{Parser}
 use Rattle.dfdl_parse.specs.Moves.{Machine}
 use Rattle.dfdl_parse.specs.Machines.{HasEnded}
@@ -114,6 +114,7 @@ over_at input table root (Sized prim size) k s spent ended_here same = absurd en
 over_at input table root (Seek what) k s spent ended_here same = absurd ended_here
 over_at input table root (LookIn slot) k s spent ended_here same = absurd ended_here
 over_at input table root (LookBehind slot bit) k s spent ended_here same = absurd ended_here
+over_at input table root (Count slot question) k s spent ended_here same = absurd ended_here
 over_at input table root (Leave end) k s spent ended_here same =
     let is : root ≡ spend spent (ended end s) =
     same ∙ ap (λ (k : List Frame). spend spent (ahead input table (record { focus = Leave end; stack = k; state = s }))) ended_here in (

@@ -17,15 +17,17 @@ use Rattle.dfdl_grammar.specs.Framing.{aligned}
 use Rattle.dfdl_grammar.specs.States.{Input, State, anchor, anchor_at}
 use Rattle.dfdl_grammar.specs.Outcomes.{Outcome, ended, spend, then_do}
 use Rattle.dfdl_grammar.specs.Leaves.{Find, Fails, Finds, FindsOctets, FindsText, land}
-use Rattle.dfdl_grammar.specs.Boxes.{rest, unboxed}
+use Rattle.dfdl_grammar.specs.Boxes.{rest_from, unboxed}
+use Rattle.dfdl_grammar.specs.Spans.{span_ends}
 use Rattle.dfdl_grammar.specs.Marks.{back, closed, is_settled, stays_at}
 use Rattle.dfdl_grammar.specs.Choices.{branches, or_branch}
-use Rattle.dfdl_grammar.specs.Occurrences.{after_occurrence, dropped, occurrences}
+use Rattle.dfdl_grammar.specs.Occurrences.{after_occurrence, dropped, occurrences, occurring, untried}
 use Rattle.dfdl_grammar.specs.Representations.{after_empty, or_else, refuse, refused_among, the_last, then_empty, then_normal}
 use Rattle.dfdl_grammar.specs.Rows.{below, group, meaning}
 use Rattle.dfdl_grammar.proofs.Spending.{spend-nothing, spend-spend, follow-spend, close-spend}
+use Rattle.dfdl_grammar.specs.Instances.{closed_behind}
 use Rattle.dfdl_parse.specs.declared.frame.Frame.{Frame}
-use Rattle.dfdl_parse.specs.declared.frame.Frame.TheVariants.{Rest, Element, Box, Scope as ScopeFrame, Trial, Branch, Occurrence, Times, Before, Content, Closing, Concluding}
+use Rattle.dfdl_parse.specs.declared.frame.Frame.TheVariants.{Rest, Element, Box, Spanning, Scope as ScopeFrame, Trial, Branch, Occurrence, Times, Before, Content, Closing, Aside, Concluding, Instance as InstanceFrame}
 use Rattle.dfdl_terms.specs.declared.statement.Statements.{Statements}
 use Rattle.dfdl_paths.specs.declared.place.Start.{Start}
 use Rattle.dfdl_grammar.specs.Statements.{concluded_at}
@@ -33,12 +35,13 @@ use Rattle.dfdl_parse.specs.declared.frame.Next.{Next}
 use Rattle.dfdl_parse.specs.declared.frame.Next.TheVariants as next
 use Rattle.dfdl_parse.specs.declared.frame.Parts.{Parts}
 use Rattle.dfdl_parse.specs.declared.frame.Focus.{Focus}
-use Rattle.dfdl_parse.specs.declared.frame.Focus.TheVariants.{Enter, Pass, PassRest, Sized, Seek, LookIn, LookBehind, Leave}
+use Rattle.dfdl_parse.specs.declared.frame.Focus.TheVariants.{Enter, Pass, PassRest, Sized, Seek, LookIn, LookBehind, Count, Leave}
 use Rattle.dfdl_parse.specs.Moves.{Move, is_missing}
 use Rattle.dfdl_parse.specs.Machines.{children_of}
 use Rattle.dfdl_parse.specs.Trials.{parts_of}
+use Rattle.dfdl_grammar.specs.Slots.{in_slots}
 use Rattle.dfdl_parse.specs.Slots.{slots_from}
-use Rattle.dfdl_parse.specs.SlotsAhead.{sequence_of}
+use Rattle.dfdl_parse.specs.SlotsAhead.{content_slot, course_of, sequence_of}
 use Rattle.dfdl_parse.specs.Ahead.{resume, retried, trial_of, finish, ahead}
 use Rattle.dfdl_parse.proofs.SlotMoves.{before_slot-spend, closing_slot-spend, content_slot-spend}
 
@@ -57,6 +60,7 @@ Stands held (Sized prim size) s = Anchored held s
 Stands held (Seek what) s = Anchored held (record s { at = aligned 8 s.at })
 Stands held (LookIn slot) s = Anchored held s
 Stands held (LookBehind slot bit) s = Anchored held s
+Stands held (Count slot question) s = Anchored held s
 Stands held (Leave end) s = Unit {0}
 
 -- the window shows the data at this state: it agrees with them, has the size of the limit, and holds the bytes that are needed
@@ -87,7 +91,7 @@ pub land-nothing : (limits : Limits) (first : ℕ) (reached : Reached Find) (s :
 land-nothing limits first (Told (Fails cause)) s = refl
 land-nothing limits first (Told (Finds content bits)) s = refl
 land-nothing limits first (Told (FindsOctets bytes bits)) s = hold-nothing (nat_le (length s.text + length bytes) limits.text) _ s limits.text
-land-nothing limits first (Told (FindsText bytes end)) s = hold-nothing (nat_le (length s.text + length bytes) limits.text) _ s limits.text
+land-nothing limits first (Told (FindsText bytes span)) s = hold-nothing (nat_le (length s.text + length bytes) limits.text) _ s limits.text
 land-nothing limits first TooFar s = refl
 land-nothing limits first Missing s = refl
 
@@ -165,6 +169,18 @@ concluded-spend Done limits table start statements t o = refl
 concluded-spend (Failed cause bit) limits table start statements t o = refl
 concluded-spend (Stopped cause quantity) limits table start statements t o = refl
 
+-- and in an occurrence that is tried
+pub untried-spend : (end : End) (t : Tally) (o : Outcome) → untried end (spend t o) ≡ spend t (untried end o)
+untried-spend Done t o = refl
+untried-spend (Failed cause bit) t o = refl
+untried-spend (Stopped cause quantity) t o = refl
+
+-- and in a component with an instance of a variable
+pub closed-spend : (end : End) (t : Tally) (o : Outcome) → closed_behind end (spend t o) ≡ spend t (closed_behind end o)
+closed-spend Done t o = refl
+closed-spend (Failed cause bit) t o = refl
+closed-spend (Stopped cause quantity) t o = refl
+
 module _ (input : Input) (table : Table) where
   pub retried-spend : (id : ℕ) (parts : Option Parts) (follows : Next) (t : Tally) (o : Outcome)
       → retried input table id parts follows (spend t o) ≡ spend t (retried input table id parts follows o)
@@ -176,18 +192,27 @@ module _ (input : Input) (table : Table) where
   resume-spend : (frame : Frame) (t : Tally) (o : Outcome) → resume input table frame (spend t o) ≡ spend t (resume input table frame o)
   resume-spend (Rest id next) t o = follow-spend o.end t o (group (below input table id) (drop next (children_of (slice_get table.rows id))))
   resume-spend (Element outer complex) t o = close-spend o.end t outer complex o
-  resume-spend (Box outer) t o =
-      ap (λ (p : Outcome). unboxed p.end outer.stop outer.hidden p) (follow-spend o.end t o (rest input))
-      ∙ unboxed-spend (then_do o (rest input)).end t outer.stop outer.hidden (then_do o (rest input))
+  resume-spend (Box outer from) t o =
+      ap (λ (p : Outcome). unboxed p.end outer.stop outer.hidden p) (follow-spend o.end t o (rest_from input from))
+      ∙ unboxed-spend (then_do o (rest_from input from)).end t outer.stop outer.hidden (then_do o (rest_from input from))
+  resume-spend (Spanning from) t o = follow-spend o.end t o (span_ends from)
   resume-spend (ScopeFrame count) t o = unscoped-spend o.end t count o
-  resume-spend (Trial id next) t o = retried-spend id (parts_of (slice_get table.rows id)) next t o
+  resume-spend (Trial id occurrence next) t o = retried-spend id (parts_of occurrence (slice_get table.rows id)) next t o
   resume-spend (Branch id next) t o = branch-spend o.end t o (branches (below input table id) (drop next (children_of (slice_get table.rows id))))
-  resume-spend (Occurrence body initiated left) t o = occurrence-spend o.end t o (occurrences (meaning input table body) initiated left)
+  resume-spend (Occurrence body initiated left) t o =
+      let p : Outcome = untried o.end o in
+      let more : State → Outcome = occurrences (occurring true (meaning input table body)) initiated left in
+      ap (λ (q : Outcome). after_occurrence q.end q more) (untried-spend o.end t o) ∙ occurrence-spend p.end t p more
   resume-spend (Times body left) t o = follow-spend o.end t o (group (meaning input table) (replicate left body))
   resume-spend (Before slot) t o = before_slot-spend (sequence_of input table slot.sequence) slot (slots_from table slot) t o
-  resume-spend (Content slot bit empty) t o = content_slot-spend (sequence_of input table slot.sequence) slot bit empty (slots_from table slot) t o
+  resume-spend (Content slot bit empty) t o =
+      ap (content_slot (sequence_of input table slot.sequence) slot bit empty (slots_from table slot)) (untried-spend o.end t o)
+      ∙ content_slot-spend (sequence_of input table slot.sequence) slot bit empty (slots_from table slot) t (untried o.end o)
   resume-spend (Closing slot bit) t o = closing_slot-spend (sequence_of input table slot.sequence) slot bit (slots_from table slot) t o
+  resume-spend (Aside slot) t o =
+      follow-spend o.end t o (in_slots (sequence_of input table slot.sequence) (slots_from table slot) (course_of slot))
   resume-spend (Concluding statements start) t o = concluded-spend o.end input.limits table start statements t o
+  resume-spend InstanceFrame t o = closed-spend o.end t o
 
   pub finish-spend : (k : List Frame) (t : Tally) (o : Outcome) → finish input table k (spend t o) ≡ spend t (finish input table k o)
   unfolding finish

@@ -12,7 +12,7 @@ use Rattle.dfdl_grammar.specs.Outcomes.{Outcome, spend}
 use Rattle.dfdl_grammar.proofs.Spending.{spend-spend}
 use Rattle.dfdl_parse.specs.declared.parser.Parser.{Parser}
 use Rattle.dfdl_parse.specs.declared.frame.Focus.{Focus}
-use Rattle.dfdl_parse.specs.declared.frame.Focus.TheVariants.{Enter, Pass, PassRest, Sized, Seek, LookIn, LookBehind, Leave}
+use Rattle.dfdl_parse.specs.declared.frame.Focus.TheVariants.{Enter, Pass, PassRest, Sized, Seek, LookIn, LookBehind, Count, Leave}
 use Rattle.dfdl_parse.specs.Moves.{Machine, Move}
 use Rattle.dfdl_parse.specs.Machines.{HasEnded, step}
 use Rattle.dfdl_parse.specs.Opens.{IsHeld, NeedsFrom}
@@ -77,6 +77,7 @@ stands_at held p (Seek what) low at =
     record { base = here.0; end = omega arith; low = few }
 stands_at held p (LookIn slot) low at = anchored_at held (state_of p) (holds held.base (LookIn slot) p.stack (state_of p) low) at
 stands_at held p (LookBehind slot bit) low at = anchored_at held (state_of p) (holds held.base (LookBehind slot bit) p.stack (state_of p) low).0 at
+stands_at held p (Count slot question) low at = anchored_at held (state_of p) (holds held.base (Count slot question) p.stack (state_of p) low) at
 stands_at held p (Leave end) low at = tt
 
 module _ (table : Table) (nests : Nests table.rows) (old new : Parser) (before after : Held) (looks_made : ℕ)

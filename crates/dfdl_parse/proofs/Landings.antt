@@ -9,7 +9,7 @@ use Rattle.dfdl_terms.specs.declared.prefix.LengthUnit.{LengthUnit}
 use Rattle.dfdl_value.specs.declared.value.Value.{Value}
 use Rattle.dfdl_terms.specs.declared.row.Primitive.{Primitive}
 use Rattle.dfdl_terms.specs.declared.row.Row.{Row}
-use Rattle.dfdl_terms.specs.declared.row.Row.TheVariants.{Leaf, Boxed, Scope, Separated, Statement, Concluded}
+use Rattle.dfdl_terms.specs.declared.row.Row.TheVariants.{Leaf, Boxed, Scope, Separated, Spanned, Statement, Concluded}
 use Rattle.dfdl_terms.specs.declared.text.TextSize.{TextSize}
 use Rattle.dfdl_terms.specs.Rows.{Table}
 use Rattle.dfdl_looks.specs.Asks.{Ask, ask}
@@ -24,7 +24,7 @@ use Rattle.dfdl_grammar.specs.Leaves.{nil_values, read_by}
 use Rattle.dfdl_grammar.specs.Prefixes.{bits_of_units, resized, size_of}
 use Rattle.dfdl_parse.specs.declared.frame.Frame.{Frame}
 use Rattle.dfdl_parse.specs.declared.frame.Focus.{Focus}
-use Rattle.dfdl_parse.specs.declared.frame.Frame.TheVariants.{Scope as ScopeFrame}
+use Rattle.dfdl_parse.specs.declared.frame.Frame.TheVariants.{Spanning, Scope as ScopeFrame}
 use Rattle.dfdl_parse.specs.declared.frame.Focus.TheVariants.{Enter, Seek, Sized}
 use Rattle.dfdl_parse.specs.declared.frame.Behind.{Behind}
 use Rattle.dfdl_parse.specs.declared.frame.Behind.TheVariants as behind
@@ -194,6 +194,15 @@ module _ (limits : Limits) (table : Table) (held : Held) (id : ℕ) (r : Row) (k
       let row_is : slice_get table.rows id ≡ Some (Concluded statements body) = at ∙ ap (λ (x : Row). Some x) is in
       subst (λ (o : Option Row). Moved (enter limits table held id o k s) false far new held looks) (sym row_is)
       (subst (λ (n : ℕ). Moved (pass one_row held (Enter body) (with_behind statements (Inside s.inside) k) s) false far new held n) (sym none) moved)
+
+  -- a content without a box is entered
+  pub spanned-entered : (body looks : ℕ) → r ≡ Spanned body → looks ≡ 0
+      → Moved (pass one_row held (Enter body) (Spanning s.at ∷ k) s) false far new held 0
+      → Moved (enter limits table held id (slice_get table.rows id) k s) false far new held looks
+  spanned-entered body looks is none moved =
+      let row_is : slice_get table.rows id ≡ Some (Spanned body) = at ∙ ap (λ (x : Row). Some x) is in
+      subst (λ (o : Option Row). Moved (enter limits table held id o k s) false far new held looks) (sym row_is)
+      (subst (λ (n : ℕ). Moved (pass one_row held (Enter body) (Spanning s.at ∷ k) s) false far new held n) (sym none) moved)
 
   -- a row that asks an expression is entered
   pub asking-entered : (row : Row) (m : Machine) (looks : ℕ) → r ≡ row → enter limits table held id (Some row) k s ≡ begins one_row held m → looks ≡ 0

@@ -23,7 +23,7 @@ use Rattle.dfdl_grammar.specs.Outcomes.{Outcome, ended, spend, then_do}
 use Rattle.dfdl_grammar.specs.Delimiters.{lists_of, markup}
 use Rattle.dfdl_grammar.specs.Leaves.{Find, Fails, Finds, FindsOctets, FindsText, content_begins, content_ends, has_room, land, leaf, nil_values, program, program_for}
 use Rattle.dfdl_grammar.specs.Prefixes.{behind_prefix, is_size, land_prefix, leaf_of, prefixed, resized, sized_leaf, units_told}
-use Rattle.dfdl_grammar.specs.Boxes.{boxed_at, rest, unboxed}
+use Rattle.dfdl_grammar.specs.Boxes.{boxed_at, rest_from, unboxed}
 use Rattle.dfdl_grammar.specs.Rows.{below}
 use Rattle.dfdl_grammar.proofs.Spending.{spend-spend, spend-nothing}
 use Rattle.dfdl_grammar.proofs.Towers.{below-meaning}
@@ -161,14 +161,14 @@ module _ (input : Input) (table : Table) where
   -- a box begins
   pub box-ahead : (id bits body : ℕ) (k : List Frame) (s : State) → body < id → (inside : Bool)
       → finish input table k (cond inside
-      (let o : Outcome = then_do (below input table id body (boxed_at (s.at + bits) s)) (rest input) in unboxed o.end s.stop s.hidden o)
+      (let o : Outcome = then_do (below input table id body (boxed_at (s.at + bits) s)) (rest_from input s.at) in unboxed o.end s.stop s.hidden o)
       (ended (Failed LengthOutOfRange s.at) s))
       ≡ ahead input table (cond inside
-      (record { focus = Enter body; stack = Box (outside s) ∷ k; state = boxed_at (s.at + bits) s })
+      (record { focus = Enter body; stack = Box (outside s) s.at ∷ k; state = boxed_at (s.at + bits) s })
       (at_end (Failed LengthOutOfRange s.at) k s))
   unfolding finish
   box-ahead id bits body k s less true =
-      ap (λ (o : Outcome). finish input table k (unboxed (then_do o (rest input)).end s.stop s.hidden (then_do o (rest input))))
+      ap (λ (o : Outcome). finish input table k (unboxed (then_do o (rest_from input s.at)).end s.stop s.hidden (then_do o (rest_from input s.at))))
       (below-meaning input table id body (boxed_at (s.at + bits) s) less)
   box-ahead id bits body k s less false = refl
 
@@ -184,9 +184,9 @@ module _ (input : Input) (table : Table) where
         → finish input table k (land_prefix input.limits own first follow reached s)
         ≡ ahead input table (landed_prefix input.limits id own first next reached k s)
     prefix-landed first (Told (Fails cause)) is = refl
-    prefix-landed first (Told (Finds content end)) is = units-ahead end (units_told own content)
-    prefix-landed first (Told (FindsOctets bytes end)) is = refl
-    prefix-landed first (Told (FindsText bytes end)) is = refl
+    prefix-landed first (Told (Finds content span)) is = units-ahead span.end (units_told own content)
+    prefix-landed first (Told (FindsOctets bytes span)) is = refl
+    prefix-landed first (Told (FindsText bytes span)) is = refl
     prefix-landed first TooFar is = refl
     prefix-landed first Missing is = absurd (cc)
 

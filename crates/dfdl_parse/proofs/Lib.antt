@@ -14,11 +14,13 @@ pub mod SeekSteps
 pub mod LeafSteps
 pub mod PointSteps
 pub mod AskSteps
+pub mod InstanceSteps
 pub mod SlotMoves
 pub mod SlotRows
 pub mod SlotAsks
 pub mod SlotSteps
 pub mod SlotComes
+pub mod SlotCounts
 pub mod SlotGlances
 pub mod SlotTakes
 pub mod SlotVerdicts

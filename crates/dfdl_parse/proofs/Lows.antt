@@ -13,7 +13,7 @@ use Rattle.dfdl_terms.specs.declared.delimiters.Delimiters.{Delimiters}
 use Rattle.dfdl_terms.specs.declared.row.Primitive.{Primitive}
 use Rattle.dfdl_delims.specs.Longest.{Longest, Text, NoText}
 use Rattle.dfdl_terms.specs.declared.row.Row.{Row}
-use Rattle.dfdl_terms.specs.declared.row.Row.TheVariants.{Leaf, Elem, Group, Skip, Align, Initiator, Terminator, Separator, Scope, Boxed, PrefixedLeaf, PrefixedBox, MeasuredLeaf, MeasuredBox, Repeat, Counted, Optional, Choice, Dispatch, Statement, Concluded, Hidden, Separated}
+use Rattle.dfdl_terms.specs.declared.row.Row.TheVariants.{Leaf, Elem, Group, Skip, Align, Initiator, Terminator, Separator, Scope, Boxed, PrefixedLeaf, PrefixedBox, MeasuredLeaf, MeasuredBox, Repeat, Counted, Optional, Choice, Dispatch, Statement, Concluded, Hidden, Spanned, Instance, Separated}
 use Rattle.dfdl_terms.specs.Rows.{Table}
 use Rattle.dfdl_looks.specs.Asks.{Reached, Told, TooFar, Missing, ask}
 use Rattle.dfdl_looks.specs.Tallies.{Tally, needs_from, nothing, one_row, saw_byte}
@@ -24,7 +24,7 @@ use Rattle.dfdl_grammar.specs.declared.limits.Limits.{Limits}
 use Rattle.dfdl_grammar.specs.Outcomes.{Outcome, ended}
 use Rattle.dfdl_grammar.specs.States.{State, anchor, anchor_at}
 use Rattle.dfdl_grammar.specs.Marks.{back, closed, is_settled, mark_at, marked, point_at, pointed, resolved, stays_at}
-use Rattle.dfdl_grammar.specs.Occurrences.{dropped}
+use Rattle.dfdl_grammar.specs.Occurrences.{as_normal, as_tried, dropped}
 use Rattle.dfdl_grammar.specs.declared.mark.Mark.{Mark}
 use Rattle.dfdl_grammar.specs.declared.instead.Instead.{Instead}
 use Rattle.dfdl_grammar.specs.declared.instead.Instead.TheVariants.{Nothing, Nil, Empty}
@@ -32,17 +32,17 @@ use Rattle.dfdl_terms.specs.declared.text.TextSize.{TextSize}
 use Rattle.dfdl_grammar.specs.Prefixes.{bits_of_units, resized, size_of, units_told}
 use Rattle.dfdl_grammar.specs.Leaves.{Find, Fails, Finds, FindsOctets, FindsText, content_begins, has_room, nil_values, program, program_for, read_by, text_sought}
 use Rattle.dfdl_grammar.specs.Framing.{aligned}
-use Rattle.dfdl_grammar.specs.Boxes.{boxed_at}
+use Rattle.dfdl_grammar.specs.Boxes.{boxed_at, filled_from}
 use Rattle.dfdl_grammar.specs.Delimiters.{lists_of, markup, opens, passed_text, sought_among, stands_in}
 use Rattle.dfdl_grammar.specs.Elements.{begun, has_elements}
 use Rattle.dfdl_parse.specs.declared.frame.Frame.{Frame}
-use Rattle.dfdl_parse.specs.declared.frame.Frame.TheVariants.{Rest, Element, Box, Scope as ScopeFrame, Trial, Branch, Occurrence, Times, Before, Content, Closing, Concluding}
+use Rattle.dfdl_parse.specs.declared.frame.Frame.TheVariants.{Rest, Element, Box, Spanning, Scope as ScopeFrame, Trial, Branch, Occurrence, Times, Before, Content, Closing, Aside, Concluding, Instance as InstanceFrame}
 use Rattle.dfdl_parse.specs.declared.frame.Outside.{Outside}
 use Rattle.dfdl_parse.specs.declared.frame.Next.{Next}
 use Rattle.dfdl_parse.specs.declared.frame.Next.TheVariants as next
 use Rattle.dfdl_parse.specs.declared.frame.Parts.{Parts}
 use Rattle.dfdl_parse.specs.declared.frame.Focus.{Focus}
-use Rattle.dfdl_parse.specs.declared.frame.Focus.TheVariants.{Enter, Pass, PassRest, Sized, Seek, LookIn, LookBehind, Leave}
+use Rattle.dfdl_parse.specs.declared.frame.Focus.TheVariants.{Enter, Pass, PassRest, Sized, Seek, LookIn, LookBehind, Count, Leave}
 use Rattle.dfdl_parse.specs.declared.frame.Behind.TheVariants as behind
 use Rattle.dfdl_parse.specs.Boxing.{back_outside, outside}
 use Rattle.dfdl_parse.specs.declared.frame.Sought.{Sought}
@@ -52,12 +52,12 @@ use Rattle.dfdl_parse.specs.Moves.{Machine, Move, landed, pass, read_leaf, read_
 use Rattle.dfdl_parse.specs.Prefixed.{at_end, behind_units, can_fit, landed_prefix, prefix_move, read_prefix, read_resized, read_sized, sized_begins, units_begin}
 use Rattle.dfdl_parse.specs.Machines.{children_of, enter, enter_group, fill, fill_move, go_on, leave, pass_rest, rest_move, seen_beyond, step}
 use Rattle.dfdl_parse.specs.Opens.{AreOpen, IsHeld, NeedsBehind, NeedsFrom, points_of}
-use Rattle.dfdl_parse.specs.Trials.{attempt, parts_of, refused, retry, trial_done, try_empty, try_nil, try_normal, two_rows}
+use Rattle.dfdl_parse.specs.Trials.{attempt, parts_here, parts_of, refused, retry, trial_done, try_empty, try_nil, try_normal, two_rows}
 use Rattle.dfdl_parse.specs.Points.{try_branch, try_occurrence}
 use Rattle.dfdl_parse.specs.Testing.{landed_test, read_test, verdict_in}
 use Rattle.dfdl_parse.specs.Stating.{behind_done, make_statement, with_behind}
 use Rattle.dfdl_terms.specs.declared.statement.Statement.{Statement as AnyStatement}
-use Rattle.dfdl_terms.specs.declared.statement.Statement.TheVariants.{Pattern, Expression, Setting, Calculation, Question}
+use Rattle.dfdl_terms.specs.declared.statement.Statement.TheVariants.{Pattern, Expression, Setting, Calculation, Question, Opening}
 use Rattle.dfdl_terms.specs.declared.statement.Statements.{Statements}
 use Rattle.dfdl_paths.specs.declared.place.Start.{Start}
 use Rattle.dfdl_paths.specs.declared.place.Start.TheVariants.{At, Inside}
@@ -67,13 +67,14 @@ use Rattle.dfdl_grammar.specs.declared.end.Halt.{Halt}
 use Rattle.dfdl_grammar.specs.Statements.{reconsidered_from, stated}
 use Rattle.dfdl_parse.proofs.Stated.{all-again, behind-comes, stated-comes}
 use Rattle.dfdl_parse.proofs.Asked.{counted-has, dispatch-has, measured-has, times-have}
+use Rattle.dfdl_parse.proofs.InstanceSteps.{instanced-has}
 use Rattle.dfdl_parse.proofs.Resolved.{sought-comes, tested-comes}
 use Rattle.dfdl_terms.specs.declared.statement.PatternTest.{PatternTest}
 use Rattle.dfdl_parse.proofs.Beyond.{beyond-byte}
 use Rattle.dfdl_parse.proofs.Opens.{IsMarked, back-closed, back-open, closed-open, later, lower, mark-back-open, mark-open, resolved-open, risen, some-mark, stayed-closed}
 use Rattle.dfdl_leaves.proofs.Texts.{EndsBehind, program_for-ends}
 use Rattle.dfdl_parse.specs.Slots.{separation_at, slots_from}
-use Rattle.dfdl_parse.proofs.SlotLows.{separated-low}
+use Rattle.dfdl_parse.proofs.SlotLows.{beside-low, count-low, separated-low}
 use Rattle.dfdl_parse.proofs.SlotBacks.{content-low}
 use Rattle.dfdl_parse.proofs.SlotCloses.{closing_done-low, closing_failed-low}
 use Rattle.dfdl_parse.proofs.SlotBegins.{before_done-low, before_failed-low, look_behind-low, look_in-low}
@@ -99,11 +100,11 @@ held-low false low k s t most is opens = tt
 landed-low : (limits : Limits) (focus : Focus) (first low : ℕ) (reached : Reached Find) (k : List Frame) (s : State) → low ≤ s.at / 8 → AreOpen low s.at k s.marks
     → EndsBehind s.at reached → NeedsFrom low focus k s → IsLowFrom low (landed limits focus first reached k s)
 landed-low limits focus first low (Told (Fails cause)) k s is opens ends stays = opens
-landed-low limits focus first low (Told (Finds content end)) k s is opens ends stays = (omega arith, later low s.at end k s.marks ends opens)
-landed-low limits focus first low (Told (FindsOctets bytes end)) k s is opens ends stays =
-    held-low (nat_le (length s.text + length bytes) limits.text) low k _ s limits.text (omega arith) (later low s.at end k s.marks ends opens)
-landed-low limits focus first low (Told (FindsText bytes end)) k s is opens ends stays =
-    held-low (nat_le (length s.text + length bytes) limits.text) low k _ s limits.text (omega arith) (later low s.at end k s.marks ends opens)
+landed-low limits focus first low (Told (Finds content span)) k s is opens ends stays = (omega arith, later low s.at span.end k s.marks ends opens)
+landed-low limits focus first low (Told (FindsOctets bytes span)) k s is opens ends stays =
+    held-low (nat_le (length s.text + length bytes) limits.text) low k _ s limits.text (omega arith) (later low s.at span.end k s.marks ends opens)
+landed-low limits focus first low (Told (FindsText bytes span)) k s is opens ends stays =
+    held-low (nat_le (length s.text + length bytes) limits.text) low k _ s limits.text (omega arith) (later low s.at span.end k s.marks ends opens)
 landed-low limits focus first low TooFar k s is opens ends stays = tt
 landed-low limits focus first low Missing k s is opens ends stays = stays
 
@@ -118,7 +119,7 @@ sized-low low prim size (Some primitive) k s is opens = by (can_fit size s.at s.
     by false = opens
 
 box-begun-low : (low bits body : ℕ) (k : List Frame) (s : State) → low ≤ s.at / 8 → AreOpen low s.at k s.marks → (inside : Bool)
-    → IsLowFrom low (cond inside (record { focus = Enter body; stack = Box (outside s) ∷ k; state = boxed_at (s.at + bits) s }) (at_end (Failed LengthOutOfRange s.at) k s))
+    → IsLowFrom low (cond inside (record { focus = Enter body; stack = Box (outside s) s.at ∷ k; state = boxed_at (s.at + bits) s }) (at_end (Failed LengthOutOfRange s.at) k s))
 box-begun-low low bits body k s is opens true = (is, opens)
 box-begun-low low bits body k s is opens false = opens
 
@@ -132,9 +133,9 @@ module _ (limits : Limits) (id own : ℕ) (next : ℕ → List Frame → State �
   prefix-landed-low : (first : ℕ) (reached : Reached Find) (s : State) → low ≤ s.at / 8 → AreOpen low s.at k s.marks → EndsBehind s.at reached
       → IsLowFrom low (landed_prefix limits id own first next reached k s)
   prefix-landed-low first (Told (Fails cause)) s is opens ends = opens
-  prefix-landed-low first (Told (Finds content end)) s is opens ends = units-low end (units_told own content) s is opens ends
-  prefix-landed-low first (Told (FindsOctets bytes end)) s is opens ends = opens
-  prefix-landed-low first (Told (FindsText bytes end)) s is opens ends = opens
+  prefix-landed-low first (Told (Finds content span)) s is opens ends = units-low span.end (units_told own content) s is opens ends
+  prefix-landed-low first (Told (FindsOctets bytes span)) s is opens ends = opens
+  prefix-landed-low first (Told (FindsText bytes span)) s is opens ends = opens
   prefix-landed-low first TooFar s is opens ends = tt
   prefix-landed-low first Missing s is opens ends = (is, opens)
 
@@ -244,6 +245,8 @@ statement-low limits table held id number (Some (Calculation calculation)) k s s
     stated-low held.base k limits table (At s.inside) number (Some (Calculation calculation)) s (low, opens)
 statement-low limits table held id number (Some (Question question)) k s stands low opens =
     stated-low held.base k limits table (Inside s.inside) number (Some (Question question)) s (low, opens)
+statement-low limits table held id number (Some (Opening opening)) k s stands low opens =
+    stated-low held.base k limits table (Inside s.inside) number (Some (Opening opening)) s (low, opens)
 
 -- the statements behind a component go back to no mark
 behind-open : (base at : ℕ) (marks : List Mark) (statements : Statements) (start : Start) (k : List Frame) → AreOpen base at k marks
@@ -269,15 +272,15 @@ IsTried point base k s = (base ≤ s.at / 8) × IsMarked point base s.at k s.mar
 
 module _ (cost : Tally) (most : ℕ) (held : Held) (id : ℕ) (parts : Parts) (k : List Frame) (s : State) (opens : IsTried false held.base k s) where
   normal-low : IsLow (try_normal cost most held id parts k s)
-  normal-low = attempt-low cost most held id parts Nothing (Trial id next.Nothing ∷ k) s opens.0 opens.1 (nat_lt (length s.nodes) most)
+  normal-low = attempt-low cost most held id parts Nothing (Trial id parts.occurrence next.Nothing ∷ k) s opens.0 opens.1 (nat_lt (length s.nodes) most)
 
   empty-low : (empty : Option ℕ) → IsLow (try_empty cost most held id parts empty k s)
   empty-low None = normal-low
-  empty-low (Some prim) = attempt-low cost most held id parts (Empty prim) (Trial id next.Normal ∷ k) s opens.0 opens.1 (nat_lt (length s.nodes) most)
+  empty-low (Some prim) = attempt-low cost most held id parts (Empty prim) (Trial id parts.occurrence next.Normal ∷ k) s opens.0 opens.1 (nat_lt (length s.nodes) most)
 
   nil-low : (nil : Option ℕ) → IsLow (try_nil cost most held id parts nil k s)
   nil-low None = empty-low parts.tried.empty
-  nil-low (Some prim) = attempt-low cost most held id parts (Nil prim) (Trial id next.Empty ∷ k) s opens.0 opens.1 (nat_lt (length s.nodes) most)
+  nil-low (Some prim) = attempt-low cost most held id parts (Nil prim) (Trial id parts.occurrence next.Empty ∷ k) s opens.0 opens.1 (nat_lt (length s.nodes) most)
 
 -- a mark that is opened here
 opened : (base : ℕ) (k : List Frame) (s : State) → base ≤ s.at / 8 → AreOpen base s.at k s.marks → IsTried false base k (marked s)
@@ -303,7 +306,7 @@ branch-failed-low held id place child cause bit k s opens false is =
 
 -- an occurrence
 occurrence-low : (cost : Tally) (held : Held) (body : ℕ) (initiated : Bool) (left : ℕ) (k : List Frame) (s : State) → held.base ≤ s.at / 8 → AreOpen held.base s.at k s.marks → (none : Bool)
-    → IsLow (cond none (pass cost held (Leave Done) k s) (pass cost held (Enter body) (Occurrence body initiated (left - 1) ∷ k) (pointed initiated s)))
+    → IsLow (cond none (pass cost held (Leave Done) k s) (pass cost held (Enter body) (Occurrence body initiated (left - 1) ∷ k) (as_tried (pointed initiated s))))
 occurrence-low cost held body initiated left k s low opens true = (low, opens)
 occurrence-low cost held body initiated left k s low opens false = point-opened held.base initiated k s low opens
 
@@ -320,14 +323,14 @@ occurrence-failed-low : (held : Held) (cause : ParseCause) (bit : ℕ) (k : List
 occurrence-failed-low held cause bit k s opens true is = closed-open true held.base s.at k s.marks opens
 occurrence-failed-low held cause bit k s opens false is = back-closed true held.base k s opens is
 
-retry-low : (most : ℕ) (held : Held) (id : ℕ) (parts : Option Parts) (follows : Next) (cause : ParseCause) (bit : ℕ) (k : List Frame) (s : State)
-    → AreOpen held.base s.at (Trial id follows ∷ k) s.marks → IsLow (retry most held id parts follows (Failed cause bit) k s)
-retry-low most held id None follows cause bit k s opens = closed-open false held.base s.at k s.marks opens
-retry-low most held id (Some parts) next.Empty cause bit k s opens =
+retry-low : (most : ℕ) (held : Held) (id : ℕ) (occurrence : Bool) (parts : Option Parts) (follows : Next) (cause : ParseCause) (bit : ℕ) (k : List Frame) (s : State)
+    → AreOpen held.base s.at (Trial id occurrence follows ∷ k) s.marks → IsLow (retry most held id parts follows (Failed cause bit) k s)
+retry-low most held id occurrence None follows cause bit k s opens = closed-open false held.base s.at k s.marks opens
+retry-low most held id occurrence (Some parts) next.Empty cause bit k s opens =
     empty-low one_row most held id parts k (back s) (mark-back-open held.base k s opens) parts.tried.empty
-retry-low most held id (Some parts) next.Normal cause bit k s opens =
+retry-low most held id occurrence (Some parts) next.Normal cause bit k s opens =
     normal-low one_row most held id parts k (back s) (mark-back-open held.base k s opens)
-retry-low most held id (Some parts) next.Nothing cause bit k s opens = closed-open false held.base s.at k s.marks opens
+retry-low most held id occurrence (Some parts) next.Nothing cause bit k s opens = closed-open false held.base s.at k s.marks opens
 
 module _ (held : Held) (s : State) where
   read-low : (cost : Tally) (limits : Limits) (focus : Focus) (delimiters : List Delimiters) (nil : Option (List Value)) (primitive : Primitive) (k : List Frame) → Anchored held s → NeedsFrom (anchor s) focus k s
@@ -393,23 +396,23 @@ module _ (held : Held) (s : State) where
   group-low id (child ∷ rest) k low opens = (low, opens)
 
   -- a representation that is done
-  refused-low : (id : ℕ) (follows : Next) (marks : List Mark) (k : List Frame) → s.marks ≡ marks → AreOpen held.base s.at (Trial id follows ∷ k) s.marks
+  refused-low : (id : ℕ) (occurrence : Bool) (follows : Next) (marks : List Mark) (k : List Frame) → s.marks ≡ marks → AreOpen held.base s.at (Trial id occurrence follows ∷ k) s.marks
       → IsLow (refused marks held k s)
-  refused-low id follows [] k is opens =
+  refused-low id occurrence follows [] k is opens =
       some-mark false (points_of k) (ap (λ (ms : List Mark). map (λ mark. mark.is_point) ms) (sym is) ∙ opens.0.0)
-  refused-low id follows (mark ∷ outer) k is opens = closed-open false held.base s.at k s.marks opens
+  refused-low id occurrence follows (mark ∷ outer) k is opens = closed-open false held.base s.at k s.marks opens
 
-  empty-found-low : (id : ℕ) (follows : Next) (refuses : Bool) (k : List Frame) → held.base ≤ s.at / 8 → AreOpen held.base s.at (Trial id follows ∷ k) s.marks
+  empty-found-low : (id : ℕ) (occurrence : Bool) (follows : Next) (refuses : Bool) (k : List Frame) → held.base ≤ s.at / 8 → AreOpen held.base s.at (Trial id occurrence follows ∷ k) s.marks
       → IsLow (cond refuses (refused s.marks held k s) (pass nothing held (Leave Done) k (closed s)))
-  empty-found-low id follows true k low opens = refused-low id follows s.marks k refl opens
-  empty-found-low id follows false k low opens = (low, closed-open false held.base s.at k s.marks opens)
+  empty-found-low id occurrence follows true k low opens = refused-low id occurrence follows s.marks k refl opens
+  empty-found-low id occurrence follows false k low opens = (low, closed-open false held.base s.at k s.marks opens)
 
-  done-low : (id : ℕ) (parts : Option Parts) (follows : Next) (k : List Frame) → held.base ≤ s.at / 8 → AreOpen held.base s.at (Trial id follows ∷ k) s.marks
+  done-low : (id : ℕ) (occurrence : Bool) (parts : Option Parts) (follows : Next) (k : List Frame) → held.base ≤ s.at / 8 → AreOpen held.base s.at (Trial id occurrence follows ∷ k) s.marks
       → IsLow (trial_done held parts follows k s)
-  done-low id None follows k low opens = (low, closed-open false held.base s.at k s.marks opens)
-  done-low id (Some parts) next.Empty k low opens = (low, closed-open false held.base s.at k s.marks opens)
-  done-low id (Some parts) next.Normal k low opens = empty-found-low id next.Normal parts.tried.refuses_empty k low opens
-  done-low id (Some parts) next.Nothing k low opens = (low, closed-open false held.base s.at k s.marks opens)
+  done-low id occurrence None follows k low opens = (low, closed-open false held.base s.at k s.marks opens)
+  done-low id occurrence (Some parts) next.Empty k low opens = (low, closed-open false held.base s.at k s.marks opens)
+  done-low id occurrence (Some parts) next.Normal k low opens = empty-found-low id occurrence next.Normal parts.tried.refuses_empty k low opens
+  done-low id occurrence (Some parts) next.Nothing k low opens = (low, closed-open false held.base s.at k s.marks opens)
 
   -- a delimiter begins
   delimiter-low : (what : Sought) (k : List Frame) → held.base ≤ s.at / 8 → AreOpen held.base s.at k s.marks → (does_stand : Bool)
@@ -424,8 +427,8 @@ module _ (held : Held) (s : State) where
       leaf-low one_row limits (Enter id) table.delimiters (nil_values table.primitives s.instead)
       (slice_get table.primitives (read_by table.primitives s.instead prim)) k stands (stands.low, risen held.base s.at s.at k s.marks opens) low opens
   enter-low limits table id (Some (Elem name simple tried statements body)) k stands low opens =
-      element-low limits.nodes id (record { complex = has_elements simple; tried = tried; body = body }) (with_behind statements (At (length s.nodes)) k) low
-      (behind-open held.base s.at s.marks statements (At (length s.nodes)) k opens) tried.are_several
+      element-low limits.nodes id (parts_here s.instead (has_elements simple) tried body) (with_behind statements (At (length s.nodes)) k) low
+      (behind-open held.base s.at s.marks statements (At (length s.nodes)) k opens) (parts_here s.instead (has_elements simple) tried body).tried.are_several
   enter-low limits table id (Some (Group children)) k stands low opens = group-low id children k low opens
   enter-low limits table id (Some (Skip bits)) k stands low opens =
       begin-low (s.at + bits) k low opens (nat_le (s.at + bits) s.at) (nat_le (s.at + bits) s.stop) refl
@@ -464,6 +467,9 @@ module _ (held : Held) (s : State) where
   enter-low limits table id (Some (Concluded statements body)) k stands low opens =
       (low, behind-open held.base s.at s.marks statements (Inside s.inside) k opens)
   enter-low limits table id (Some (Hidden body)) k stands low opens = (low, opens)
+  enter-low limits table id (Some (Spanned body)) k stands low opens = (low, opens)
+  enter-low limits table id (Some (Instance statement body)) k stands low opens =
+      instanced-has (IsLowFrom held.base) table body k s (λ variables why. opens) (λ variables. (low, opens)) (λ variables. (low, opens)) statement
   enter-low limits table id (Some (Separated policy position initiated slots)) k stands low opens =
       separated-low held initiated k s low opens id policy position slots
 
@@ -471,10 +477,10 @@ module _ (held : Held) (s : State) where
   go-low id next None k low opens = (low, opens)
   go-low id next (Some child) k low opens = (low, opens)
 
-  leave-box-low : (outer : Outside) (k : List Frame) → held.base ≤ s.at / 8 → AreOpen held.base s.at k s.marks → (over : Bool) → nat_le s.stop s.at ≡ over
-      → IsLow (cond over (pass nothing held (Leave Done) k (back_outside outer s)) (pass nothing held (PassRest s.at outer) k s))
-  leave-box-low outer k low opens true is = (low, opens)
-  leave-box-low outer k low opens false is = (low, (grind (arith, nat_tests), (omega arith, opens)))
+  leave-box-low : (outer : Outside) (from : ℕ) (k : List Frame) → held.base ≤ s.at / 8 → AreOpen held.base s.at k s.marks → (over : Bool) → nat_le s.stop s.at ≡ over
+      → IsLow (cond over (pass nothing held (Leave Done) k (back_outside outer (filled_from from s))) (pass nothing held (PassRest s.at outer) k (filled_from from s)))
+  leave-box-low outer from k low opens true is = (low, opens)
+  leave-box-low outer from k low opens false is = (low, (grind (arith, nat_tests), (omega arith, opens)))
 
   leave-low : (limits : Limits) (table : Table) (frame : Frame) (told : End) (k : List Frame) → NeedsBehind held.base told (frame ∷ k) s
       → IsLow (leave limits table held frame told k s)
@@ -482,19 +488,22 @@ module _ (held : Held) (s : State) where
   leave-low limits table (Rest id next) (Failed cause bit) k needs = needs
   leave-low limits table (Element outer complex) Done k needs = needs
   leave-low limits table (Element outer complex) (Failed cause bit) k needs = needs
-  leave-low limits table (Box outer) Done k needs = leave-box-low outer k needs.0 needs.1 (nat_le s.stop s.at) refl
-  leave-low limits table (Box outer) (Failed cause bit) k needs = needs
+  leave-low limits table (Box outer from) Done k needs = leave-box-low outer from k needs.0 needs.1 (nat_le s.stop s.at) refl
+  leave-low limits table (Box outer from) (Failed cause bit) k needs = needs
+  leave-low limits table (Spanning from) Done k needs = needs
+  leave-low limits table (Spanning from) (Failed cause bit) k needs = needs
   leave-low limits table (ScopeFrame count) Done k needs = needs
   leave-low limits table (ScopeFrame count) (Failed cause bit) k needs = needs
-  leave-low limits table (Trial id next) Done k needs = done-low id (parts_of (slice_get table.rows id)) next k needs.0 needs.1
-  leave-low limits table (Trial id next) (Failed cause bit) k needs =
-      retry-low limits.nodes held id (parts_of (slice_get table.rows id)) next cause bit k s needs
+  leave-low limits table (Trial id occurrence next) Done k needs = done-low id occurrence (parts_of occurrence (slice_get table.rows id)) next k needs.0 needs.1
+  leave-low limits table (Trial id occurrence next) (Failed cause bit) k needs =
+      retry-low limits.nodes held id occurrence (parts_of occurrence (slice_get table.rows id)) next cause bit k s needs
   leave-low limits table (Branch id next) Done k needs = (needs.0, closed-open true held.base s.at k s.marks needs.1)
   leave-low limits table (Branch id next) (Failed cause bit) k needs =
       branch-failed-low held id next (slice_get (children_of (slice_get table.rows id)) next) cause bit k s needs (is_settled s.marks) refl
-  leave-low limits table (Occurrence body initiated left) Done k needs = passed-low held body initiated left k s needs.0 needs.1 (stays_at s.marks s.at) refl
+  leave-low limits table (Occurrence body initiated left) Done k needs =
+      passed-low held body initiated left k (as_normal s) needs.0 needs.1 (stays_at s.marks s.at) refl
   leave-low limits table (Occurrence body initiated left) (Failed cause bit) k needs =
-      occurrence-failed-low held cause bit k s needs (is_settled s.marks) refl
+      occurrence-failed-low held cause bit k (as_normal s) needs (is_settled s.marks) refl
   leave-low limits table (Times body left) Done k needs = times-have (IsLowFrom held.base) body k s needs (λ more. needs) left
   leave-low limits table (Times body left) (Failed cause bit) k needs = needs
   leave-low limits table (Before slot) Done k needs =
@@ -503,15 +512,20 @@ module _ (held : Held) (s : State) where
       before_failed-low held slot k s (record { such = needs.0; lies = needs.1.1 }) (separation_at table slot).initiated needs.1.0.0 needs.1.0.1 cause bit
       (slots_from table slot)
   leave-low limits table (Content slot bit empty) Done k needs =
-      content-low held (separation_at table slot).initiated slot bit empty k s needs.1.1.0 (record { such = needs.1.0; lies = needs.1.1.1 }) (nat_lt bit s.at) Done
+      content-low held (separation_at table slot).initiated slot bit empty k (as_normal s) needs.1.1.0 (record { such = needs.1.0; lies = needs.1.1.1 }) (nat_lt bit s.at) Done
       (λ none. needs.0) (λ none unmoved. not-moved bit s.at unmoved) (slots_from table slot)
   leave-low limits table (Content slot bit empty) (Failed cause at) k needs =
-      content-low held (separation_at table slot).initiated slot bit empty k s needs.1.0 (record { such = needs.0; lies = needs.1.1 }) false (Failed cause at)
+      content-low held (separation_at table slot).initiated slot bit empty k (as_normal s) needs.1.0 (record { such = needs.0; lies = needs.1.1 }) false (Failed cause at)
       (λ none. absurd (cc)) (λ none unmoved. absurd (cc)) (slots_from table slot)
   leave-low limits table (Closing slot bit) Done k needs =
       closing_done-low held (separation_at table slot).initiated slot bit k s needs.1.1.0 (record { such = needs.1.0; lies = needs.1.1.1 }) needs.0 (slots_from table slot)
   leave-low limits table (Closing slot bit) (Failed cause at) k needs =
       closing_failed-low held (separation_at table slot).initiated slot bit k s needs.1.0 (record { such = needs.0; lies = needs.1.1 }) cause at (slots_from table slot)
+  leave-low limits table (Aside slot) Done k needs =
+      beside-low held (separation_at table slot).initiated k s needs.0 needs.1 slot (slots_from table slot)
+  leave-low limits table (Aside slot) (Failed cause bit) k needs = needs
+  leave-low limits table InstanceFrame Done k needs = needs
+  leave-low limits table InstanceFrame (Failed cause bit) k needs = needs
   leave-low limits table (Concluding statements start) Done k needs = concluded-low held.base k limits table statements start s needs
   leave-low limits table (Concluding statements start) (Failed cause bit) k needs =
       again-low held.base k table start statements.first statements.count s needs
@@ -544,6 +558,8 @@ module _ (held : Held) (s : State) where
       look_in-low held slot k s stands limits table.delimiters (separation_at table slot).initiated needs (slots_from table slot)
   step-low limits table (LookBehind slot bit) k stands needs =
       look_behind-low held slot k s stands limits table.delimiters (separation_at table slot).initiated bit needs (slots_from table slot)
+  step-low limits table (Count slot question) k stands needs =
+      count-low table held (separation_at table slot).initiated k s needs.0 needs.1 slot question (slots_from table slot)
   step-low limits table (Leave told) [] stands needs = needs
   step-low limits table (Leave told) (frame ∷ k) stands needs = leave-low limits table frame told k needs
 

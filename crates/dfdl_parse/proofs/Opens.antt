@@ -13,9 +13,9 @@ use Rattle.dfdl_grammar.specs.Slots.{has_mark, is_tried, opens_before}
 use Rattle.dfdl_grammar.specs.Framing.{aligned}
 use Rattle.dfdl_grammar.specs.States.{State, held_from}
 use Rattle.dfdl_parse.specs.declared.frame.Frame.{Frame}
-use Rattle.dfdl_parse.specs.declared.frame.Frame.TheVariants.{Rest, Element, Box, Scope as ScopeFrame, Trial, Branch, Occurrence, Times, Before, Content, Closing, Concluding}
+use Rattle.dfdl_parse.specs.declared.frame.Frame.TheVariants.{Rest, Element, Box, Spanning, Scope as ScopeFrame, Trial, Branch, Occurrence, Times, Before, Content, Closing, Aside, Concluding, Instance as InstanceFrame}
 use Rattle.dfdl_parse.specs.declared.frame.Focus.{Focus}
-use Rattle.dfdl_parse.specs.declared.frame.Focus.TheVariants.{Enter, Pass, PassRest, Sized, Seek, LookIn, LookBehind, Leave}
+use Rattle.dfdl_parse.specs.declared.frame.Focus.TheVariants.{Enter, Pass, PassRest, Sized, Seek, LookIn, LookBehind, Count, Leave}
 use Rattle.dfdl_parse.specs.Opens.{AreNested, AreOpen, AreSuch, ComesBackIn, GoesBack, Holds, IsBefore, IsContent, Lie, NeedsBehind, NeedsFrom, before_at, first_at, outside_before, outside_slot, points_of, slot_at}
 
 -- the outermost of some marks
@@ -95,11 +95,14 @@ pub lie-later : (at bit : ℕ) (k : List Frame) (marks : List Mark) → at ≤ b
 lie-later at bit [] marks less lies = tt
 lie-later at bit (Rest id next ∷ k) marks less lies = lie-later at bit k marks less lies
 lie-later at bit (Element outer complex ∷ k) marks less lies = lie-later at bit k marks less lies
-lie-later at bit (Box outer ∷ k) marks less lies = lie-later at bit k marks less lies
+lie-later at bit (Box outer from ∷ k) marks less lies = lie-later at bit k marks less lies
+lie-later at bit (Spanning from ∷ k) marks less lies = lie-later at bit k marks less lies
 lie-later at bit (ScopeFrame count ∷ k) marks less lies = lie-later at bit k marks less lies
 lie-later at bit (Concluding statements start ∷ k) marks less lies = lie-later at bit k marks less lies
+lie-later at bit (InstanceFrame ∷ k) marks less lies = lie-later at bit k marks less lies
 lie-later at bit (Times body left ∷ k) marks less lies = lie-later at bit k marks less lies
-lie-later at bit (Trial id next ∷ k) marks less lies =
+lie-later at bit (Aside slot ∷ k) marks less lies = lie-later at bit k marks less lies
+lie-later at bit (Trial id occurrence next ∷ k) marks less lies =
     lie-later (first_at marks at) (first_at marks bit) k (outer_marks marks) (first-later at bit marks less) lies
 lie-later at bit (Branch id next ∷ k) marks less lies =
     lie-later (first_at marks at) (first_at marks bit) k (outer_marks marks) (first-later at bit marks less) lies
@@ -174,11 +177,14 @@ resolved-lie : (at : ℕ) (k : List Frame) (marks : List Mark) → Lie at k mark
 resolved-lie at [] marks lies = tt
 resolved-lie at (Rest id next ∷ k) marks lies = resolved-lie at k marks lies
 resolved-lie at (Element outer complex ∷ k) marks lies = resolved-lie at k marks lies
-resolved-lie at (Box outer ∷ k) marks lies = resolved-lie at k marks lies
+resolved-lie at (Box outer from ∷ k) marks lies = resolved-lie at k marks lies
+resolved-lie at (Spanning from ∷ k) marks lies = resolved-lie at k marks lies
 resolved-lie at (ScopeFrame count ∷ k) marks lies = resolved-lie at k marks lies
 resolved-lie at (Concluding statements start ∷ k) marks lies = resolved-lie at k marks lies
+resolved-lie at (InstanceFrame ∷ k) marks lies = resolved-lie at k marks lies
 resolved-lie at (Times body left ∷ k) marks lies = resolved-lie at k marks lies
-resolved-lie at (Trial id next ∷ k) marks lies = one-resolved at k marks (λ ms bit. resolved-lie bit k ms) lies
+resolved-lie at (Aside slot ∷ k) marks lies = resolved-lie at k marks lies
+resolved-lie at (Trial id occurrence next ∷ k) marks lies = one-resolved at k marks (λ ms bit. resolved-lie bit k ms) lies
 resolved-lie at (Branch id next ∷ k) marks lies = one-resolved at k marks (λ ms bit. resolved-lie bit k ms) lies
 resolved-lie at (Occurrence body initiated left ∷ k) marks lies = one-resolved at k marks (λ ms bit. resolved-lie bit k ms) lies
 resolved-lie at (Before slot ∷ k) marks lies =
@@ -403,11 +409,14 @@ comes-back : (at : ℕ) (k : List Frame) (marks : List Mark) → Lie at k marks 
 comes-back at [] marks lies = tt
 comes-back at (Rest id next ∷ k) marks lies = tt
 comes-back at (Element outer complex ∷ k) marks lies = tt
-comes-back at (Box outer ∷ k) marks lies = tt
+comes-back at (Box outer from ∷ k) marks lies = tt
+comes-back at (Spanning from ∷ k) marks lies = tt
 comes-back at (ScopeFrame count ∷ k) marks lies = tt
 comes-back at (Concluding statements start ∷ k) marks lies = tt
+comes-back at (InstanceFrame ∷ k) marks lies = tt
 comes-back at (Times body left ∷ k) marks lies = tt
-comes-back at (Trial id next ∷ k) marks lies = tt
+comes-back at (Aside slot ∷ k) marks lies = tt
+comes-back at (Trial id occurrence next ∷ k) marks lies = tt
 comes-back at (Branch id next ∷ k) marks lies = tt
 comes-back at (Occurrence body initiated left ∷ k) marks lies = tt
 comes-back at (Before slot ∷ k) marks lies = tt
@@ -438,4 +447,6 @@ holds base (LookBehind slot bit) k s needs = (
   (nested-high base s.at s.at s.marks needs.1.1.0.1 needs.0, held-nested base s.at s.at s.marks needs.1.1.0.1 (omega arith)),
   nested-before base s.at s.marks needs.1.1.0.1,
 )
+holds base (Count slot question) k s needs =
+    (held-high base s.at s.at k s.marks needs.1 needs.0, held-before base s.at s.at k s.marks needs.1 (omega arith))
 holds base (Leave end) k s needs = behind_holds base end k s needs

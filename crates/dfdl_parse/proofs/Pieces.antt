@@ -13,7 +13,7 @@ use Rattle.dfdl_grammar.specs.States.{State}
 use Rattle.dfdl_grammar.specs.Documents.{document_from, front_at}
 use Rattle.dfdl_parse.specs.declared.frame.Frame.{Frame}
 use Rattle.dfdl_parse.specs.declared.frame.Focus.{Focus}
-use Rattle.dfdl_parse.specs.declared.frame.Focus.TheVariants.{Enter, Pass, PassRest, Sized, Seek, LookIn, LookBehind, Leave}
+use Rattle.dfdl_parse.specs.declared.frame.Focus.TheVariants.{Enter, Pass, PassRest, Sized, Seek, LookIn, LookBehind, Count, Leave}
 use Rattle.dfdl_parse.specs.declared.outcome.Fed.TheVariants.{Done as FedDone}
 use Rattle.dfdl_parse.specs.declared.outcome.Outcome.TheVariants.{Done as AllDone}
 use Rattle.dfdl_parse.specs.declared.session.Session.{Session}
@@ -185,6 +185,7 @@ done_at (Sized prim size) k is = absurd (cc)
 done_at (Seek what) k is = absurd (cc)
 done_at (LookIn slot) k is = absurd (cc)
 done_at (LookBehind slot bit) k is = absurd (cc)
+done_at (Count slot question) k is = absurd (cc)
 done_at (Leave Done) [] is = (refl, refl)
 done_at (Leave (Failed cause bit)) [] is = absurd (cc)
 done_at (Leave (Stopped (Limit cause) quantity)) [] is = absurd (cc)
@@ -283,6 +284,7 @@ ended_reaches last held (Sized prim size) k s over_here reaches = absurd over_he
 ended_reaches last held (Seek what) k s over_here reaches = absurd over_here
 ended_reaches last held (LookIn slot) k s over_here reaches = absurd over_here
 ended_reaches last held (LookBehind slot bit) k s over_here reaches = absurd over_here
+ended_reaches last held (Count slot question) k s over_here reaches = absurd over_here
 ended_reaches last held (Leave told) k s over_here reaches = reaches
 
 -- before a piece the window holds what it holds
@@ -294,6 +296,7 @@ reaches_now s (Sized prim size) sound = sound.at
 reaches_now s (Seek what) sound = sound.at
 reaches_now s (LookIn slot) sound = sound.at
 reaches_now s (LookBehind slot bit) sound = sound.at
+reaches_now s (Count slot question) sound = sound.at
 reaches_now s (Leave told) sound = (omega arith, sound.at)
 
 -- and comes to no byte behind those, or behind the last that it looks at
@@ -339,6 +342,7 @@ module _ (old mid : Session) (sight : Held) (piece : List ℕ) (ready : IsReady 
   reaches_more last (Seek what) s at = at
   reaches_more last (LookIn slot) s at = at
   reaches_more last (LookBehind slot bit) s at = at
+  reaches_more last (Count slot question) s at = at
   reaches_more last (Leave told) s reaches = (subst (λ (h : Held). h.base ≤ last) (sym is) reaches.0, reaches.1)
 
   pub ran_reaches : (before : ℕ) → before ≡ end_of old.sight → HasEnded mid.parser.focus mid.parser.stack

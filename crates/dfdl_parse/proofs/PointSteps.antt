@@ -13,7 +13,7 @@ use Rattle.dfdl_grammar.specs.States.{Input, State}
 use Rattle.dfdl_grammar.specs.Marks.{back, closed, is_settled, pointed, stays_at}
 use Rattle.dfdl_grammar.specs.Outcomes.{Outcome, ended, spend}
 use Rattle.dfdl_grammar.specs.Choices.{branches, or_branch}
-use Rattle.dfdl_grammar.specs.Occurrences.{after_occurrence, dropped, occurrences}
+use Rattle.dfdl_grammar.specs.Occurrences.{after_occurrence, as_tried, dropped, occurrences, occurring}
 use Rattle.dfdl_grammar.specs.Rows.{below, meaning}
 use Rattle.dfdl_grammar.proofs.Towers.{below-meaning}
 use Rattle.dfdl_parse.specs.declared.frame.Frame.{Frame}
@@ -53,31 +53,31 @@ module _ (input : Input) (table : Table) where
 
   -- an occurrence, where a cost before it is given
   pub occurrence-ahead : (cost : Tally) (held : Held) (body : ℕ) (initiated : Bool) (left : ℕ) (k : List Frame) (s : State)
-      → Does input table (finish input table k (spend cost (occurrences (meaning input table body) initiated left s))) (try_occurrence cost held body initiated left k s)
+      → Does input table (finish input table k (spend cost (occurrences (occurring true (meaning input table body)) initiated left s))) (try_occurrence cost held body initiated left k s)
   unfolding finish occurrences
   occurrence-ahead cost held body initiated zero k s = finish-spend input table k cost (ended Done s)
   occurrence-ahead cost held body initiated (suc left) k s =
-      let o : Outcome = meaning input table body (pointed initiated s) in
+      let o : Outcome = occurring true (meaning input table body) (pointed initiated s) in
       let same : left ≡ suc left - 1 = omega arith in
       let some : nat_eq (suc left) 0 ≡ false = grind (arith, nat_tests) in
-      subst (λ (none : Bool). Does input table (finish input table k (spend cost (occurrences (meaning input table body) initiated (suc left) s)))
-      (cond none (pass cost held (Leave Done) k s) (pass cost held (Enter body) (Occurrence body initiated (suc left - 1) ∷ k) (pointed initiated s)))) (sym some)
-      (finish-spend input table k cost (after_occurrence o.end o (occurrences (meaning input table body) initiated left))
-      ∙ ap (λ (n : ℕ). spend cost (finish input table k (after_occurrence o.end o (occurrences (meaning input table body) initiated n)))) same)
+      subst (λ (none : Bool). Does input table (finish input table k (spend cost (occurrences (occurring true (meaning input table body)) initiated (suc left) s)))
+      (cond none (pass cost held (Leave Done) k s) (pass cost held (Enter body) (Occurrence body initiated (suc left - 1) ∷ k) (as_tried (pointed initiated s))))) (sym some)
+      (finish-spend input table k cost (after_occurrence o.end o (occurrences (occurring true (meaning input table body)) initiated left))
+      ∙ ap (λ (n : ℕ). spend cost (finish input table k (after_occurrence o.end o (occurrences (occurring true (meaning input table body)) initiated n)))) same)
 
   -- the first of some occurrences
   pub first-ahead : (held : Held) (id body : ℕ) (initiated : Bool) (most : ℕ) (k : List Frame) (s : State) → body < id
-      → Does input table (finish input table k (spend one_row (occurrences (below input table id body) initiated most s)))
+      → Does input table (finish input table k (spend one_row (occurrences (occurring true (below input table id body)) initiated most s)))
       (try_occurrence one_row held body initiated most k s)
   first-ahead held id body initiated most k s less =
       let same : below input table id body ≡ meaning input table body = λ i t. below-meaning input table id body t less i in
-      ap (λ (f : State → Outcome). finish input table k (spend one_row (occurrences f initiated most s))) same
+      ap (λ (f : State → Outcome). finish input table k (spend one_row (occurrences (occurring true f) initiated most s))) same
       ∙ occurrence-ahead one_row held body initiated most k s
 
   -- an occurrence that is done
   pub passed-ahead : (held : Held) (body : ℕ) (initiated : Bool) (left : ℕ) (k : List Frame) (s : State) (stays : Bool)
       → Does input table
-      (finish input table k (cond stays (ended Done (dropped s)) (spend nothing (occurrences (meaning input table body) initiated left (closed s)))))
+      (finish input table k (cond stays (ended Done (dropped s)) (spend nothing (occurrences (occurring true (meaning input table body)) initiated left (closed s)))))
       (cond stays (pass nothing held (Leave Done) k (dropped s)) (try_occurrence nothing held body initiated left k (closed s)))
   passed-ahead held body initiated left k s true = after_nothing input table k (ended Done (dropped s))
   passed-ahead held body initiated left k s false = occurrence-ahead nothing held body initiated left k (closed s)
@@ -104,7 +104,7 @@ module _ (held : Held) (k : List Frame) where
       either-on end s (try_branch nothing held id place child k (back s)) (branch-on nothing id place child (back s)) (is_settled s.marks) waits
 
   begun-on : (cost : Tally) (body : ℕ) (initiated : Bool) (left : ℕ) (s : State) (none : Bool)
-      → (cond none (pass cost held (Leave Done) k s) (pass cost held (Enter body) (Occurrence body initiated (left - 1) ∷ k) (pointed initiated s))).waits ≡ true → ⊥
+      → (cond none (pass cost held (Leave Done) k s) (pass cost held (Enter body) (Occurrence body initiated (left - 1) ∷ k) (as_tried (pointed initiated s)))).waits ≡ true → ⊥
   begun-on cost body initiated left s true waits = absurd (cc)
   begun-on cost body initiated left s false waits = absurd (cc)
 

@@ -14,7 +14,7 @@ use Rattle.dfdl_delims.specs.Longest.{Longest, Text, NoText}
 use Rattle.dfdl_terms.specs.declared.delimiters.Delimiters.{Delimiters}
 use Rattle.dfdl_terms.specs.declared.row.Primitive.{Primitive}
 use Rattle.dfdl_terms.specs.declared.row.Row.{Row}
-use Rattle.dfdl_terms.specs.declared.row.Row.TheVariants.{Leaf, Elem, Group, Skip, Align, Initiator, Terminator, Separator, Scope, Boxed, PrefixedLeaf, PrefixedBox, MeasuredLeaf, MeasuredBox, Repeat, Counted, Optional, Choice, Dispatch, Statement, Concluded, Hidden, Separated}
+use Rattle.dfdl_terms.specs.declared.row.Row.TheVariants.{Leaf, Elem, Group, Skip, Align, Initiator, Terminator, Separator, Scope, Boxed, PrefixedLeaf, PrefixedBox, MeasuredLeaf, MeasuredBox, Repeat, Counted, Optional, Choice, Dispatch, Statement, Concluded, Hidden, Spanned, Instance, Separated}
 use Rattle.dfdl_terms.specs.Rows.{Table}
 use Rattle.dfdl_terms.specs.declared.prefix.LengthUnit.{LengthUnit}
 use Rattle.dfdl_terms.specs.declared.text.TextSize.{TextSize}
@@ -31,21 +31,21 @@ use Rattle.dfdl_grammar.specs.declared.mark.Mark.{Mark}
 use Rattle.dfdl_grammar.specs.Outcomes.{Outcome, ended}
 use Rattle.dfdl_grammar.specs.States.{State, anchor, anchor_at, held_from}
 use Rattle.dfdl_grammar.specs.Marks.{back, back_among, closed, is_settled, marked, pointed, stays_at}
-use Rattle.dfdl_grammar.specs.Occurrences.{dropped}
+use Rattle.dfdl_grammar.specs.Occurrences.{as_normal, as_occurrence, as_tried, dropped}
 use Rattle.dfdl_grammar.specs.Prefixes.{bits_of_units, resized, size_of, units_told}
 use Rattle.dfdl_grammar.specs.Leaves.{Find, Fails, Finds, FindsOctets, FindsText, content_begins, has_room, nil_values, program, program_for, read_by, text_sought}
 use Rattle.dfdl_grammar.specs.Framing.{aligned}
 use Rattle.dfdl_grammar.specs.Delimiters.{lists_of, markup, opens, passed_text, sought_among, stands_in}
-use Rattle.dfdl_grammar.specs.Boxes.{boxed_at}
+use Rattle.dfdl_grammar.specs.Boxes.{boxed_at, filled_from}
 use Rattle.dfdl_grammar.specs.Elements.{begun, has_elements}
 use Rattle.dfdl_parse.specs.declared.frame.Frame.{Frame}
-use Rattle.dfdl_parse.specs.declared.frame.Frame.TheVariants.{Rest, Element, Box, Scope as ScopeFrame, Trial, Branch, Occurrence, Times, Before, Content, Closing, Concluding}
+use Rattle.dfdl_parse.specs.declared.frame.Frame.TheVariants.{Rest, Element, Box, Spanning, Scope as ScopeFrame, Trial, Branch, Occurrence, Times, Before, Content, Closing, Aside, Concluding, Instance as InstanceFrame}
 use Rattle.dfdl_parse.specs.declared.frame.Next.{Next}
 use Rattle.dfdl_parse.specs.declared.frame.Next.TheVariants as next
 use Rattle.dfdl_parse.specs.declared.frame.Parts.{Parts}
 use Rattle.dfdl_parse.specs.declared.frame.Outside.{Outside}
 use Rattle.dfdl_parse.specs.declared.frame.Focus.{Focus}
-use Rattle.dfdl_parse.specs.declared.frame.Focus.TheVariants.{Enter, Pass, PassRest, Sized, Seek, LookIn, LookBehind, Leave}
+use Rattle.dfdl_parse.specs.declared.frame.Focus.TheVariants.{Enter, Pass, PassRest, Sized, Seek, LookIn, LookBehind, Count, Leave}
 use Rattle.dfdl_parse.specs.declared.frame.Behind.{Behind}
 use Rattle.dfdl_parse.specs.declared.frame.Behind.TheVariants as behind
 use Rattle.dfdl_parse.specs.Boxing.{back_outside, outside}
@@ -57,18 +57,20 @@ use Rattle.dfdl_parse.specs.Prefixed.{at_end, behind_units, box_begins, can_fit,
 use Rattle.dfdl_parse.specs.Machines.{children_of, enter, enter_group, fill, fill_move, go_on, leave, pass_rest, rest_move, seen_beyond, step}
 use Rattle.dfdl_parse.specs.Opens.{AreOpen, GoesBack, IsBefore, NeedsFrom}
 use Rattle.dfdl_parse.specs.Running.{Reaches}
-use Rattle.dfdl_parse.specs.Trials.{attempt, is_refused, parts_of, refused, retry, try_empty, try_nil, try_normal, two_rows}
+use Rattle.dfdl_parse.specs.Trials.{attempt, is_refused, parts_here, parts_of, refused, retry, try_empty, try_nil, try_normal, two_rows}
 use Rattle.dfdl_parse.specs.Points.{try_branch, try_occurrence}
 use Rattle.dfdl_parse.specs.Testing.{landed_test, read_test, verdict_in}
 use Rattle.dfdl_parse.specs.Stating.{behind_done, make_statement, with_behind}
 use Rattle.dfdl_terms.specs.declared.statement.Statement.{Statement as AnyStatement}
-use Rattle.dfdl_terms.specs.declared.statement.Statement.TheVariants.{Pattern, Expression, Setting, Calculation, Question}
+use Rattle.dfdl_terms.specs.declared.statement.Statement.TheVariants.{Pattern, Expression, Setting, Calculation, Question, Opening}
 use Rattle.dfdl_terms.specs.declared.statement.Statements.{Statements}
 use Rattle.dfdl_paths.specs.declared.place.Start.{Start}
 use Rattle.dfdl_paths.specs.declared.place.Start.TheVariants.{At, Inside}
 use Rattle.dfdl_grammar.specs.Statements.{reconsidered_from, stated}
 use Rattle.dfdl_parse.proofs.Stated.{all-again, behind-comes, stated-comes}
 use Rattle.dfdl_parse.proofs.Asked.{counted-has, dispatch-has, measured-has, times-have}
+use Rattle.dfdl_parse.proofs.InstanceSteps.{instanced-has}
+use Rattle.dfdl_parse.specs.Instances.{instanced_begins}
 use Rattle.dfdl_parse.specs.Asking.{begins, counted_begins, dispatch_begins, measured_begins, times_begin}
 use Rattle.dfdl_parse.proofs.Resolved.{sought-comes, tested-comes}
 use Rattle.dfdl_terms.specs.declared.statement.PatternTest.{PatternTest}
@@ -79,7 +81,7 @@ use Rattle.dfdl_terms.specs.declared.slots.Slot.{Slot}
 use Rattle.dfdl_grammar.specs.Slots.{closed_slot, has_mark, is_empty_at, is_tried, opens_before, separator_follows}
 use Rattle.dfdl_parse.specs.declared.frame.SlotPlace.{SlotPlace}
 use Rattle.dfdl_parse.specs.Slots.{closing_ended, content_ended, look_behind, look_in, opened_at, separation_at, slots_from, told_move}
-use Rattle.dfdl_parse.proofs.SlotComes.{Ways, closing-has, content_ended-has, done-has, failed-has, separated-has, settled-has, unslotted_end-has, unsought_end-has}
+use Rattle.dfdl_parse.proofs.SlotComes.{Ways, beside-has, closing-has, content_ended-has, count-has, done-has, failed-has, separated-has, settled-has, unslotted_end-has, unsought_end-has}
 use Rattle.dfdl_leaves.proofs.Ends.{AtEnd}
 use Rattle.dfdl_parse.proofs.Finishes.{Anchored, Stands}
 use Rattle.dfdl_leaves.proofs.Lies.{found-lies}
@@ -96,10 +98,10 @@ held-at false m s t most first second = second
 landed-at : (limits : Limits) (focus : Focus) (first last : ℕ) (k : List Frame) (s : State) (r : Reached Find) → s.at ≤ 8 * last
     → AtEnd (λ end. end ≤ 8 * last) r → (landed limits focus first r k s).state.at ≤ 8 * last
 landed-at limits focus first last k s (Told (Fails cause)) at there = at
-landed-at limits focus first last k s (Told (Finds content end)) at there = there
-landed-at limits focus first last k s (Told (FindsOctets bytes end)) at there =
+landed-at limits focus first last k s (Told (Finds content span)) at there = there
+landed-at limits focus first last k s (Told (FindsOctets bytes span)) at there =
     held-at (nat_le (length s.text + length bytes) limits.text) (8 * last) _ s limits.text there at
-landed-at limits focus first last k s (Told (FindsText bytes end)) at there =
+landed-at limits focus first last k s (Told (FindsText bytes span)) at there =
     held-at (nat_le (length s.text + length bytes) limits.text) (8 * last) _ s limits.text there at
 landed-at limits focus first last k s TooFar at there = at
 landed-at limits focus first last k s Missing at there = at
@@ -122,7 +124,7 @@ box-at : (last bits body : ℕ) (k : List Frame) (s : State) → s.at ≤ last �
 box-at last bits body k s at = by (nat_le (s.at + bits) s.stop)
   where
     by : (fits : Bool) → IsUpTo last
-        (cond fits (record { focus = Enter body; stack = Box (outside s) ∷ k; state = boxed_at (s.at + bits) s }) (at_end (Failed LengthOutOfRange s.at) k s))
+        (cond fits (record { focus = Enter body; stack = Box (outside s) s.at ∷ k; state = boxed_at (s.at + bits) s }) (at_end (Failed LengthOutOfRange s.at) k s))
     by true = at
     by false = at
 
@@ -140,9 +142,9 @@ module _ (limits : Limits) (id own : ℕ) (next : ℕ → List Frame → State �
   prefix-landed-at : (first : ℕ) (r : Reached Find) (s : State) → s.at ≤ last → AtEnd (λ end. end ≤ last) r
       → (landed_prefix limits id own first next r k s).state.at ≤ last
   prefix-landed-at first (Told (Fails cause)) s at there = at
-  prefix-landed-at first (Told (Finds content end)) s at there = units-at end (units_told own content) s at there
-  prefix-landed-at first (Told (FindsOctets bytes end)) s at there = at
-  prefix-landed-at first (Told (FindsText bytes end)) s at there = at
+  prefix-landed-at first (Told (Finds content span)) s at there = units-at span.end (units_told own content) s at there
+  prefix-landed-at first (Told (FindsOctets bytes span)) s at there = at
+  prefix-landed-at first (Told (FindsText bytes span)) s at there = at
   prefix-landed-at first TooFar s at there = at
   prefix-landed-at first Missing s at there = at
 
@@ -158,6 +160,7 @@ both m held (Sized prim size) s base at = at
 both m held (Seek what) s base at = at
 both m held (LookIn slot) s base at = at
 both m held (LookBehind slot bit) s base at = at
+both m held (Count slot question) s base at = at
 both m held (Leave end) s base at = (base, at)
 
 -- a look is too far by its place
@@ -236,15 +239,15 @@ module _ (m : ℕ) (held : Held) (base : held.base ≤ m) where
 
   module _ (cost : Tally) (most id : ℕ) (parts : Parts) (k : List Frame) (s : State) (at : s.at ≤ 8 * m) where
     normal-reaches : Within m (try_normal cost most held id parts k s)
-    normal-reaches = attempt-reaches cost most id parts Nothing (Trial id next.Nothing ∷ k) s at (nat_lt (length s.nodes) most)
+    normal-reaches = attempt-reaches cost most id parts Nothing (Trial id parts.occurrence next.Nothing ∷ k) s at (nat_lt (length s.nodes) most)
 
     empty-reaches : (empty : Option ℕ) → Within m (try_empty cost most held id parts empty k s)
     empty-reaches None = normal-reaches
-    empty-reaches (Some prim) = attempt-reaches cost most id parts (Empty prim) (Trial id next.Normal ∷ k) s at (nat_lt (length s.nodes) most)
+    empty-reaches (Some prim) = attempt-reaches cost most id parts (Empty prim) (Trial id parts.occurrence next.Normal ∷ k) s at (nat_lt (length s.nodes) most)
 
     nil-reaches : (nil : Option ℕ) → Within m (try_nil cost most held id parts nil k s)
     nil-reaches None = empty-reaches parts.tried.empty
-    nil-reaches (Some prim) = attempt-reaches cost most id parts (Nil prim) (Trial id next.Empty ∷ k) s at (nat_lt (length s.nodes) most)
+    nil-reaches (Some prim) = attempt-reaches cost most id parts (Nil prim) (Trial id parts.occurrence next.Empty ∷ k) s at (nat_lt (length s.nodes) most)
 
   -- a branch, and an occurrence that is tried
   branch-reaches : (cost : Tally) (id place : ℕ) (child : Option ℕ) (k : List Frame) (s : State) → s.at ≤ 8 * m → Within m (try_branch cost held id place child k s)
@@ -252,9 +255,9 @@ module _ (m : ℕ) (held : Held) (base : held.base ≤ m) where
   branch-reaches cost id place (Some child) k s at = pass-reaches cost (Enter child) (Branch id (place + 1) ∷ k) s at
 
   occurrence-reaches : (cost : Tally) (body : ℕ) (initiated : Bool) (left : ℕ) (k : List Frame) (s : State) → s.at ≤ 8 * m → (none : Bool)
-      → Within m (cond none (pass cost held (Leave Done) k s) (pass cost held (Enter body) (Occurrence body initiated (left - 1) ∷ k) (pointed initiated s)))
+      → Within m (cond none (pass cost held (Leave Done) k s) (pass cost held (Enter body) (Occurrence body initiated (left - 1) ∷ k) (as_tried (pointed initiated s))))
   occurrence-reaches cost body initiated left k s at true = pass-reaches cost (Leave Done) k s at
-  occurrence-reaches cost body initiated left k s at false = pass-reaches cost (Enter body) (Occurrence body initiated (left - 1) ∷ k) (pointed initiated s) at
+  occurrence-reaches cost body initiated left k s at false = pass-reaches cost (Enter body) (Occurrence body initiated (left - 1) ∷ k) (as_tried (pointed initiated s)) at
 
   -- the steps of slots
   abbrev UpTo : State → Type 0
@@ -280,8 +283,10 @@ module _ (m : ℕ) (held : Held) (base : held.base ≤ m) where
   slot-ways cost k = record {
     leaves = λ told t at. pass-reaches cost (Leave told) k t at;
     looks = λ slot t at. pass-reaches cost (LookIn slot) k t at;
-    enters = λ slot body bit empty t at. pass-reaches cost (Enter body) (Content slot bit empty ∷ k) t at;
+    enters = λ slot body bit empty t at. pass-reaches cost (Enter body) (Content slot bit empty ∷ k) (as_occurrence (is_tried slot.rule) t) at;
     seeks = λ slot t at. pass-reaches (plus cost one_row) (Seek sought.Separator) (Before slot ∷ k) t at;
+    counts = λ slot question t at. pass-reaches cost (Count slot question) k t at;
+    besides = λ slot body t at. pass-reaches cost (Enter body) (Aside slot ∷ k) t at;
   }
 
   -- what has failed at a point that is resolved, or not
@@ -413,6 +418,7 @@ module _ (m : ℕ) (held : Held) (base : held.base ≤ m) where
         let o : Outcome = stated limits table (At s.inside) number (Some (Calculation calculation)) s in
         pass-reaches one_row (Leave o.end) k o.state (stated-at limits table (At s.inside) number (Some (Calculation calculation)))
     statement-reaches stands limits table id number (Some (Question question)) k = pass-reaches one_row (Leave Done) k s at
+    statement-reaches stands limits table id number (Some (Opening opening)) k = pass-reaches one_row (Leave Done) k s at
 
     begins-reaches : (cost : Tally) (machine : Machine) → IsUpTo (8 * m) machine → Within m (begins cost held machine)
     begins-reaches cost machine within = pass-reaches cost machine.focus machine.stack machine.state within
@@ -426,8 +432,8 @@ module _ (m : ℕ) (held : Held) (base : held.base ≤ m) where
     enter-reaches stands limits table id (Some (Leaf prim)) k =
         leaf-reaches stands one_row limits (Enter id) table.delimiters (nil_values table.primitives s.instead) (slice_get table.primitives (read_by table.primitives s.instead prim)) k
     enter-reaches stands limits table id (Some (Elem name simple tried statements body)) k =
-        element-reaches limits.nodes id (record { complex = has_elements simple; tried = tried; body = body }) (with_behind statements (At (length s.nodes)) k)
-        tried.are_several
+        element-reaches limits.nodes id (parts_here s.instead (has_elements simple) tried body) (with_behind statements (At (length s.nodes)) k)
+        (parts_here s.instead (has_elements simple) tried body).tried.are_several
     enter-reaches stands limits table id (Some (Group children)) k = group-reaches id children k
     enter-reaches stands limits table id (Some (Skip bits)) k = begin-reaches (s.at + bits) k (nat_le (s.at + bits) s.at) (nat_le (s.at + bits) s.stop)
     enter-reaches stands limits table id (Some (Align bits)) k = begin-reaches (aligned bits s.at) k (nat_le (aligned bits s.at) s.at) (nat_le (aligned bits s.at) s.stop)
@@ -464,6 +470,10 @@ module _ (m : ℕ) (held : Held) (base : held.base ≤ m) where
     enter-reaches stands limits table id (Some (Statement number)) k = statement-reaches stands limits table id number (slice_get table.statements number) k
     enter-reaches stands limits table id (Some (Concluded statements body)) k = pass-reaches one_row (Enter body) (with_behind statements (Inside s.inside) k) s at
     enter-reaches stands limits table id (Some (Hidden body)) k = pass-reaches one_row (Enter body) k s at
+    enter-reaches stands limits table id (Some (Spanned body)) k = pass-reaches one_row (Enter body) (Spanning s.at ∷ k) s at
+    enter-reaches stands limits table id (Some (Instance statement body)) k =
+        begins-reaches one_row (instanced_begins table statement body k s)
+        (instanced-has (IsUpTo (8 * m)) table body k s (λ variables why. at) (λ variables. at) (λ variables. at) statement)
     enter-reaches stands limits table id (Some (Separated policy position initiated slots)) k =
         separated-has (Within m) UpTo held initiated k (λ here t. slot-at initiated here t) (slot-ways one_row k) id policy position slots s at
 
@@ -471,10 +481,10 @@ module _ (m : ℕ) (held : Held) (base : held.base ≤ m) where
     go-reaches id next None k = pass-reaches nothing (Leave Done) k s at
     go-reaches id next (Some child) k = pass-reaches nothing (Enter child) (Rest id (next + 1) ∷ k) s at
 
-    leave-box-reaches : (outer : Outside) (k : List Frame) (over : Bool)
-        → Within m (cond over (pass nothing held (Leave Done) k (back_outside outer s)) (pass nothing held (PassRest s.at outer) k s))
-    leave-box-reaches outer k true = pass-reaches nothing (Leave Done) k (back_outside outer s) at
-    leave-box-reaches outer k false = pass-reaches nothing (PassRest s.at outer) k s at
+    leave-box-reaches : (outer : Outside) (from : ℕ) (k : List Frame) (over : Bool)
+        → Within m (cond over (pass nothing held (Leave Done) k (back_outside outer (filled_from from s))) (pass nothing held (PassRest s.at outer) k (filled_from from s)))
+    leave-box-reaches outer from k true = pass-reaches nothing (Leave Done) k (back_outside outer (filled_from from s)) at
+    leave-box-reaches outer from k false = pass-reaches nothing (PassRest s.at outer) k (filled_from from s) at
 
     -- going back leads to no bit behind the one that comes next
     back-at : (marks : List Mark) → IsBefore marks s.at → (back_among marks s).at ≤ 8 * m
@@ -497,24 +507,28 @@ module _ (m : ℕ) (held : Held) (base : held.base ≤ m) where
     done-reaches k false = (omega arith, omega arith)
 
     -- an occurrence is dropped
-    dropped-reaches : (k : List Frame) → IsBefore s.marks s.at → Within m (pass nothing held (Leave Done) k (dropped s))
-    dropped-reaches k less = pass-reaches nothing (Leave Done) k (dropped s) (back-at s.marks less)
+    back-of : (t : State) → t.at ≤ 8 * m → (marks : List Mark) → IsBefore marks t.at → (back_among marks t).at ≤ 8 * m
+    back-of t up [] less = up
+    back-of t up (mark ∷ outer) less = omega arith
 
-    passed-reaches : (body : ℕ) (initiated : Bool) (left : ℕ) (k : List Frame) → IsBefore s.marks s.at → (stays : Bool)
-        → Within m (cond stays (pass nothing held (Leave Done) k (dropped s)) (try_occurrence nothing held body initiated left k (closed s)))
-    passed-reaches body initiated left k less true = dropped-reaches k less
-    passed-reaches body initiated left k less false = occurrence-reaches nothing body initiated left k (closed s) at (nat_eq left 0)
+    dropped-reaches : (k : List Frame) (t : State) → t.at ≤ 8 * m → IsBefore t.marks t.at → Within m (pass nothing held (Leave Done) k (dropped t))
+    dropped-reaches k t up less = pass-reaches nothing (Leave Done) k (dropped t) (back-of t up t.marks less)
+
+    passed-reaches : (body : ℕ) (initiated : Bool) (left : ℕ) (k : List Frame) (t : State) → t.at ≤ 8 * m → IsBefore t.marks t.at → (stays : Bool)
+        → Within m (cond stays (pass nothing held (Leave Done) k (dropped t)) (try_occurrence nothing held body initiated left k (closed t)))
+    passed-reaches body initiated left k t up less true = dropped-reaches k t up less
+    passed-reaches body initiated left k t up less false = occurrence-reaches nothing body initiated left k (closed t) up (nat_eq left 0)
 
     -- what waits in a slot takes an end
     content-reaches : (initiated : Bool) (k : List Frame) (slot : SlotPlace) (bit : ℕ) (empty : Bool) (slots : List Slot) (moved : Bool) (failure : Option ParseCause) (told : End)
-        → IsBefore s.marks s.at → bit ≤ s.at → Within m (content_ended held initiated slot bit empty slots moved failure told k s)
-    content-reaches initiated k slot bit empty slots moved failure told less within =
-        content_ended-has (Within m) UpTo held initiated k (λ here t. slot-at initiated here t) (slot-ways nothing k) slot s at (λ here. closed-at here s at)
-        (λ here. closed-at here (back s) (back-at s.marks less))
+        (t : State) → t.at ≤ 8 * m → IsBefore t.marks t.at → bit ≤ t.at → Within m (content_ended held initiated slot bit empty slots moved failure told k t)
+    content-reaches initiated k slot bit empty slots moved failure told t up less within =
+        content_ended-has (Within m) UpTo held initiated k (λ here t. slot-at initiated here t) (slot-ways nothing k) slot t up (λ here. closed-at here t up)
+        (λ here. closed-at here (back t) (back-of t up t.marks less))
         (record {
           closes = λ slot bit t there. pass-reaches one_row (Seek sought.Separator) (Closing slot bit ∷ k) t there;
           asks = λ slot bit t there. pass-reaches nothing (LookBehind slot bit) k t there;
-        }) bit (omega arith) (λ here. closed-at here (record (back s) { at = bit }) (omega arith)) empty slots moved failure told
+        }) bit (omega arith) (λ here. closed-at here (record (back t) { at = bit }) (omega arith)) empty slots moved failure told
 
     closing-reaches : (initiated : Bool) (k : List Frame) (slot : SlotPlace) (bit : ℕ) (slots : List Slot) (found : Bool) (told : End)
         → IsBefore s.marks s.at → Within m (closing_ended held initiated slot bit slots found told k s)
@@ -528,20 +542,23 @@ module _ (m : ℕ) (held : Held) (base : held.base ≤ m) where
     leave-reaches limits table (Rest id next) (Failed cause bit) k goes = (omega arith, omega arith)
     leave-reaches limits table (Element outer complex) Done k goes = (omega arith, omega arith)
     leave-reaches limits table (Element outer complex) (Failed cause bit) k goes = (omega arith, omega arith)
-    leave-reaches limits table (Box outer) Done k goes = leave-box-reaches outer k (nat_le s.stop s.at)
-    leave-reaches limits table (Box outer) (Failed cause bit) k goes = (omega arith, omega arith)
+    leave-reaches limits table (Box outer from) Done k goes = leave-box-reaches outer from k (nat_le s.stop s.at)
+    leave-reaches limits table (Box outer from) (Failed cause bit) k goes = (omega arith, omega arith)
+    leave-reaches limits table (Spanning from) Done k goes = (omega arith, omega arith)
+    leave-reaches limits table (Spanning from) (Failed cause bit) k goes = (omega arith, omega arith)
     leave-reaches limits table (ScopeFrame count) Done k goes = (omega arith, omega arith)
     leave-reaches limits table (ScopeFrame count) (Failed cause bit) k goes = (omega arith, omega arith)
-    leave-reaches limits table (Trial id next) Done k goes = done-reaches k (is_refused (parts_of (slice_get table.rows id)) next)
-    leave-reaches limits table (Trial id next) (Failed cause bit) k goes =
-        retry-reaches limits.nodes id (parts_of (slice_get table.rows id)) next (Failed cause bit) k goes.0
+    leave-reaches limits table (Trial id occurrence next) Done k goes = done-reaches k (is_refused (parts_of occurrence (slice_get table.rows id)) next)
+    leave-reaches limits table (Trial id occurrence next) (Failed cause bit) k goes =
+        retry-reaches limits.nodes id (parts_of occurrence (slice_get table.rows id)) next (Failed cause bit) k goes.0
     leave-reaches limits table (Branch id next) Done k goes = (omega arith, omega arith)
     leave-reaches limits table (Branch id next) (Failed cause bit) k goes =
         failed-reaches (Failed cause bit) k s _ at
         (branch-reaches nothing id next (slice_get (children_of (slice_get table.rows id)) next) k (back s) (back-at s.marks goes.0)) (is_settled s.marks)
-    leave-reaches limits table (Occurrence body initiated left) Done k goes = passed-reaches body initiated left k goes.0 (stays_at s.marks s.at)
+    leave-reaches limits table (Occurrence body initiated left) Done k goes =
+        passed-reaches body initiated left k (as_normal s) at goes.0 (stays_at s.marks s.at)
     leave-reaches limits table (Occurrence body initiated left) (Failed cause bit) k goes =
-        failed-reaches (Failed cause bit) k s _ at (dropped-reaches k goes.0) (is_settled s.marks)
+        failed-reaches (Failed cause bit) k (as_normal s) _ at (dropped-reaches k (as_normal s) at goes.0) (is_settled s.marks)
     leave-reaches limits table (Times body left) Done k goes =
         begins-reaches nothing (times_begin body left k s) (times-have (IsUpTo (8 * m)) body k s at (λ more. at) left)
     leave-reaches limits table (Times body left) (Failed cause bit) k goes = pass-reaches nothing (Leave (Failed cause bit)) k s at
@@ -551,13 +568,21 @@ module _ (m : ℕ) (held : Held) (base : held.base ≤ m) where
         failed-has (Within m) UpTo held (separation_at table slot).initiated k (λ here t. slot-at (separation_at table slot).initiated here t) (slot-ways nothing k) slot s at
         (λ here. closed-at here s at) (λ here. closed-at here (back s) (back-at s.marks goes.0)) (slots_from table slot) (Failed cause bit)
     leave-reaches limits table (Content slot bit empty) Done k goes =
-        content-reaches (separation_at table slot).initiated k slot bit empty (slots_from table slot) (nat_lt bit s.at) None Done goes.0 goes.1
+        content-reaches (separation_at table slot).initiated k slot bit empty (slots_from table slot) (nat_lt bit s.at) None Done
+        (as_normal s) at goes.0 goes.1
     leave-reaches limits table (Content slot bit empty) (Failed cause told) k goes =
-        content-reaches (separation_at table slot).initiated k slot bit empty (slots_from table slot) false (Some cause) (Failed cause told) goes.0 goes.1
+        content-reaches (separation_at table slot).initiated k slot bit empty (slots_from table slot) false (Some cause) (Failed cause told)
+        (as_normal s) at goes.0 goes.1
     leave-reaches limits table (Closing slot bit) Done k goes =
         closing-reaches (separation_at table slot).initiated k slot bit (slots_from table slot) true Done goes.0
     leave-reaches limits table (Closing slot bit) (Failed cause told) k goes =
         closing-reaches (separation_at table slot).initiated k slot bit (slots_from table slot) false (Failed cause told) goes.0
+    leave-reaches limits table (Aside slot) Done k goes =
+        beside-has (Within m) UpTo held (separation_at table slot).initiated k (λ here t. slot-at (separation_at table slot).initiated here t) (slot-ways nothing k) slot
+        (slots_from table slot) s at
+    leave-reaches limits table (Aside slot) (Failed cause bit) k goes = pass-reaches nothing (Leave (Failed cause bit)) k s at
+    leave-reaches limits table InstanceFrame Done k goes = (omega arith, omega arith)
+    leave-reaches limits table InstanceFrame (Failed cause bit) k goes = (omega arith, omega arith)
     leave-reaches limits table (Concluding statements start) Done k goes =
         let o : Outcome = behind_done limits table statements start s in
         pass-reaches nothing (Leave o.end) k o.state (concluded-at limits table statements start)
@@ -613,10 +638,11 @@ module _ (m : ℕ) (held : Held) (s : State) (at : s.at ≤ 8 * m) (stands : Anc
   few = let low = stands.low in omega arith
 
   occurs-reaches : (cost : Tally) (initiated : Bool) (slot : SlotPlace) (body : ℕ) (k : List Frame) (empty before : Bool) (here : Here)
-      → Within m (pass cost seen_from (Enter body) (Content slot s.at empty ∷ k) (cond before s (opened_at initiated here s)))
-  occurs-reaches cost initiated slot body k empty true here = pass-reaches m seen_from few cost (Enter body) (Content slot s.at empty ∷ k) s at
+      → Within m (pass cost seen_from (Enter body) (Content slot s.at empty ∷ k) (as_occurrence (is_tried slot.rule) (cond before s (opened_at initiated here s))))
+  occurs-reaches cost initiated slot body k empty true here = pass-reaches m seen_from few cost (Enter body) (Content slot s.at empty ∷ k) (as_occurrence (is_tried slot.rule) s) at
   occurs-reaches cost initiated slot body k empty false here =
-      pass-reaches m seen_from few cost (Enter body) (Content slot s.at empty ∷ k) (opened_at initiated here s) (slot-at m seen_from few initiated here s at)
+      pass-reaches m seen_from few cost (Enter body) (Content slot s.at empty ∷ k) (as_occurrence (is_tried slot.rule) (opened_at initiated here s))
+      (slot-at m seen_from few initiated here s at)
 
   look_in-reaches : held.base ≤ m → (limits : Limits) (delimiters : List Delimiters) (initiated : Bool) (slot : SlotPlace) (slots : List Slot) (k : List Frame)
       → Within m (look_in limits delimiters held initiated slot slots k s)
@@ -659,6 +685,12 @@ step-reaches m held s some limits table (LookBehind slot bit) k stands needs at 
     let low : held.base ≤ s.at / 8 = needs.0 in
     look_behind-reaches m held s at stands (omega arith) (holds held.base (LookBehind slot bit) k s needs).1 limits table.delimiters (separation_at table slot).initiated slot bit
     (slots_from table slot) k
+step-reaches m held s some limits table (Count slot question) k stands needs at =
+    let low : held.base ≤ s.at / 8 = needs.0 in
+    let base : held.base ≤ m = omega arith in
+    count-has (Within m) (UpTo m held base) held (separation_at table slot).initiated k
+    (λ here t. slot-at m held base (separation_at table slot).initiated here t) (slot-ways m held base one_row k) table slot question (slots_from table slot) s at
+    (λ kept. at)
 step-reaches m held s some limits table (Leave told) [] stands needs reaches = both (max m 0) held (Leave told) s (let low = reaches.0 in omega arith) (let at = reaches.1 in omega arith)
 step-reaches m held s some limits table (Leave told) (frame ∷ k) stands needs reaches =
     leave-reaches m held reaches.0 s reaches.1 limits table frame told k (holds held.base (Leave told) (frame ∷ k) s needs)
@@ -672,6 +704,7 @@ further m n held (Sized prim size) s less at = omega arith
 further m n held (Seek what) s less at = omega arith
 further m n held (LookIn slot) s less at = omega arith
 further m n held (LookBehind slot bit) s less at = omega arith
+further m n held (Count slot question) s less at = omega arith
 further m n held (Leave end) s less reaches = let low = reaches.0 in let at = reaches.1 in (omega arith, omega arith)
 
 -- a step that waits leaves what is done next
@@ -684,5 +717,6 @@ waiting-reaches table last held after s limits (Sized prim size) k waits at = at
 waiting-reaches table last held after s limits (Seek what) k waits at = at
 waiting-reaches table last held after s limits (LookIn slot) k waits at = at
 waiting-reaches table last held after s limits (LookBehind slot bit) k waits at = at
+waiting-reaches table last held after s limits (Count slot question) k waits at = at
 waiting-reaches table last held after s limits (Leave told) [] waits reaches = absurd (cc)
 waiting-reaches table last held after s limits (Leave told) (frame ∷ k) waits reaches = absurd (leave-on table held s limits frame told k waits)

@@ -15,7 +15,7 @@ use Rattle.dfdl_delims.specs.Longest.{Longest, Text, NoText}
 use Rattle.dfdl_terms.specs.declared.delimiters.Delimiters.{Delimiters}
 use Rattle.dfdl_terms.specs.declared.row.Primitive.{Primitive}
 use Rattle.dfdl_terms.specs.declared.row.Row.{Row}
-use Rattle.dfdl_terms.specs.declared.row.Row.TheVariants.{Leaf, Elem, Group, Skip, Align, Initiator, Terminator, Separator, Scope, Boxed, PrefixedLeaf, PrefixedBox, MeasuredLeaf, MeasuredBox, Repeat, Counted, Optional, Choice, Dispatch, Statement, Concluded, Hidden, Separated}
+use Rattle.dfdl_terms.specs.declared.row.Row.TheVariants.{Leaf, Elem, Group, Skip, Align, Initiator, Terminator, Separator, Scope, Boxed, PrefixedLeaf, PrefixedBox, MeasuredLeaf, MeasuredBox, Repeat, Counted, Optional, Choice, Dispatch, Statement, Concluded, Hidden, Spanned, Instance, Separated}
 use Rattle.dfdl_terms.specs.declared.text.TextSize.{TextSize}
 use Rattle.dfdl_terms.specs.Rows.{IsWithin, NamesWithin, Table, named_by}
 use Rattle.dfdl_looks.specs.Asks.{Reached, Told, TooFar, Missing, ask}
@@ -30,21 +30,21 @@ use Rattle.dfdl_grammar.specs.declared.mark.Mark.{Mark}
 use Rattle.dfdl_grammar.specs.States.{State, anchor, anchor_at}
 use Rattle.dfdl_grammar.specs.Outcomes.{Outcome, ended}
 use Rattle.dfdl_grammar.specs.Marks.{back, back_among, closed, is_settled, marked, pointed, resolved, stays_at}
-use Rattle.dfdl_grammar.specs.Occurrences.{dropped}
+use Rattle.dfdl_grammar.specs.Occurrences.{as_normal, as_occurrence, as_tried, dropped}
 use Rattle.dfdl_grammar.specs.Leaves.{Find, Fails, Finds, FindsOctets, FindsText, content_begins, has_room, nil_values, program, program_for, read_by, text_sought}
 use Rattle.dfdl_grammar.specs.Framing.{aligned}
 use Rattle.dfdl_grammar.specs.Delimiters.{passed_text, lists_of, markup, numbers_of, opened, sought_among, stands_in}
-use Rattle.dfdl_grammar.specs.Boxes.{boxed_at}
+use Rattle.dfdl_grammar.specs.Boxes.{boxed_at, filled_from}
 use Rattle.dfdl_grammar.specs.Elements.{begun, has_elements}
 use Rattle.dfdl_grammar.specs.Prefixes.{bits_of_units, resized, size_of, units_told}
 use Rattle.dfdl_parse.specs.declared.frame.Frame.{Frame}
-use Rattle.dfdl_parse.specs.declared.frame.Frame.TheVariants.{Rest, Element, Box, Scope as ScopeFrame, Trial, Branch, Occurrence, Times, Before, Content, Closing, Concluding}
+use Rattle.dfdl_parse.specs.declared.frame.Frame.TheVariants.{Rest, Element, Box, Spanning, Scope as ScopeFrame, Trial, Branch, Occurrence, Times, Before, Content, Closing, Aside, Concluding, Instance as InstanceFrame}
 use Rattle.dfdl_parse.specs.declared.frame.Outside.{Outside}
 use Rattle.dfdl_parse.specs.declared.frame.Next.{Next}
 use Rattle.dfdl_parse.specs.declared.frame.Next.TheVariants as next
 use Rattle.dfdl_parse.specs.declared.frame.Parts.{Parts}
 use Rattle.dfdl_parse.specs.declared.frame.Focus.{Focus}
-use Rattle.dfdl_parse.specs.declared.frame.Focus.TheVariants.{Enter, Pass, PassRest, Sized, Seek, LookIn, LookBehind, Leave}
+use Rattle.dfdl_parse.specs.declared.frame.Focus.TheVariants.{Enter, Pass, PassRest, Sized, Seek, LookIn, LookBehind, Count, Leave}
 use Rattle.dfdl_parse.specs.declared.frame.Behind.TheVariants as behind
 use Rattle.dfdl_parse.specs.declared.parser.Parser.{Parser}
 use Rattle.dfdl_parse.specs.Boxing.{back_outside, outside}
@@ -59,7 +59,7 @@ use Rattle.dfdl_terms.specs.declared.slots.Slot.{Slot}
 use Rattle.dfdl_grammar.specs.Slots.{closed_slot, has_mark, is_empty_at, is_tried, opens_before, separator_follows}
 use Rattle.dfdl_parse.specs.declared.frame.SlotPlace.{SlotPlace}
 use Rattle.dfdl_parse.specs.Slots.{closing_ended, content_ended, look_behind, look_in, opened_at, separation_at, slots_from, told_move}
-use Rattle.dfdl_parse.proofs.SlotComes.{Ways, closing-has, content_ended-has, done-has, failed-has, separated-has, settled-has, unslotted_end-has, unsought_end-has}
+use Rattle.dfdl_parse.proofs.SlotComes.{Ways, beside-has, closing-has, content_ended-has, count-has, done-has, failed-has, separated-has, settled-has, unslotted_end-has, unsought_end-has}
 use Rattle.dfdl_parse.specs.Registered.{IsRegistered, ListsWithin, SeeksWithin}
 use Rattle.dfdl_parse.specs.Searches.{among, cause_of, found_text, place_of, put_behind}
 use Rattle.dfdl_parse.specs.Shown.{HasSameLimits, limits_of, state_of}
@@ -68,17 +68,18 @@ use Rattle.dfdl_parse.specs.Points.{try_branch, try_occurrence}
 use Rattle.dfdl_parse.specs.Testing.{landed_test, read_test, verdict_in}
 use Rattle.dfdl_parse.specs.Stating.{behind_done, make_statement, with_behind}
 use Rattle.dfdl_terms.specs.declared.statement.Statement.{Statement as AnyStatement}
-use Rattle.dfdl_terms.specs.declared.statement.Statement.TheVariants.{Pattern, Expression, Setting, Calculation, Question}
+use Rattle.dfdl_terms.specs.declared.statement.Statement.TheVariants.{Pattern, Expression, Setting, Calculation, Question, Opening}
 use Rattle.dfdl_terms.specs.declared.statement.Statements.{Statements}
 use Rattle.dfdl_paths.specs.declared.place.Start.{Start}
 use Rattle.dfdl_paths.specs.declared.place.Start.TheVariants.{At, Inside}
 use Rattle.dfdl_grammar.specs.Statements.{reconsidered_from, stated}
 use Rattle.dfdl_parse.proofs.Stated.{all-again, behind-comes, stated-comes}
 use Rattle.dfdl_parse.proofs.Asked.{counted-has, dispatch-has, measured-has, times-have}
+use Rattle.dfdl_parse.proofs.InstanceSteps.{instanced-has}
 use Rattle.dfdl_parse.proofs.Resolved.{sought-comes, tested-comes}
 use Rattle.dfdl_terms.specs.declared.statement.PatternTest.{PatternTest}
 use Rattle.dfdl_report.specs.declared.cause.LimitCause.TheVariants.{Window}
-use Rattle.dfdl_parse.specs.Trials.{attempt, parts_of, refused, retry, trial_done, try_empty, try_nil, try_normal, two_rows}
+use Rattle.dfdl_parse.specs.Trials.{attempt, parts_here, parts_of, refused, retry, trial_done, try_empty, try_nil, try_normal, two_rows}
 
 -- the numbers of the row of a table are in the tables
 named-at : (table : Table) → All (NamesWithin (named_by table)) table.rows → (id : ℕ) (r : Row) → slice_get table.rows id ≡ Some r → NamesWithin (named_by table) r
@@ -105,10 +106,10 @@ module _ (count : ℕ) where
   landed-names : (limits : Limits) (focus : Focus) (first : ℕ) (reached : Reached Find) (k : List Frame) (s : State) → SeeksWithin count focus → All IsOne s.lists
       → ListsWithin count (landed limits focus first reached k s)
   landed-names limits focus first (Told (Fails cause)) k s seeks lists = left_at _ k s lists
-  landed-names limits focus first (Told (Finds content end)) k s seeks lists = left_at Done k _ lists
-  landed-names limits focus first (Told (FindsOctets bytes end)) k s seeks lists =
+  landed-names limits focus first (Told (Finds content span)) k s seeks lists = left_at Done k _ lists
+  landed-names limits focus first (Told (FindsOctets bytes span)) k s seeks lists =
       hold-names (nat_le (length s.text + length bytes) limits.text) k _ s limits.text lists lists
-  landed-names limits focus first (Told (FindsText bytes end)) k s seeks lists =
+  landed-names limits focus first (Told (FindsText bytes span)) k s seeks lists =
       hold-names (nat_le (length s.text + length bytes) limits.text) k _ s limits.text lists lists
   landed-names limits focus first TooFar k s seeks lists = left_at _ k s lists
   landed-names limits focus first Missing k s seeks lists = record { sought = seeks; open_lists = lists }
@@ -150,7 +151,7 @@ module _ (count : ℕ) where
 
   box-names : (bits body : ℕ) (k : List Frame) (s : State) → All IsOne s.lists → (inside : Bool)
       → ListsWithin count (cond inside
-      (record { focus = Enter body; stack = Box (outside s) ∷ k; state = boxed_at (s.at + bits) s })
+      (record { focus = Enter body; stack = Box (outside s) s.at ∷ k; state = boxed_at (s.at + bits) s })
       (at_end (Failed LengthOutOfRange s.at) k s))
   box-names bits body k s lists true = record { sought = tt; open_lists = lists }
   box-names bits body k s lists false = left_at _ k s lists
@@ -164,9 +165,9 @@ module _ (count : ℕ) where
     prefix-landed-names : (first : ℕ) (reached : Reached Find) (s : State) → All IsOne s.lists
         → ListsWithin count (landed_prefix limits id own first next reached k s)
     prefix-landed-names first (Told (Fails cause)) s lists = left_at _ k s lists
-    prefix-landed-names first (Told (Finds content end)) s lists = units-names end (units_told own content) s lists
-    prefix-landed-names first (Told (FindsOctets bytes end)) s lists = left_at _ k s lists
-    prefix-landed-names first (Told (FindsText bytes end)) s lists = left_at _ k s lists
+    prefix-landed-names first (Told (Finds content span)) s lists = units-names span.end (units_told own content) s lists
+    prefix-landed-names first (Told (FindsOctets bytes span)) s lists = left_at _ k s lists
+    prefix-landed-names first (Told (FindsText bytes span)) s lists = left_at _ k s lists
     prefix-landed-names first TooFar s lists = left_at _ k s lists
     prefix-landed-names first Missing s lists = record { sought = tt; open_lists = lists }
 
@@ -193,15 +194,15 @@ module _ (count : ℕ) where
 
   module _ (cost : Tally) (most : ℕ) (held : Held) (id : ℕ) (parts : Parts) (k : List Frame) (s : State) (lists : All IsOne s.lists) where
     normal-names : Names (try_normal cost most held id parts k s)
-    normal-names = attempt-names cost most held id parts Nothing (Trial id next.Nothing ∷ k) s lists (nat_lt (length s.nodes) most)
+    normal-names = attempt-names cost most held id parts Nothing (Trial id parts.occurrence next.Nothing ∷ k) s lists (nat_lt (length s.nodes) most)
 
     empty-names : (empty : Option ℕ) → Names (try_empty cost most held id parts empty k s)
     empty-names None = normal-names
-    empty-names (Some prim) = attempt-names cost most held id parts (Empty prim) (Trial id next.Normal ∷ k) s lists (nat_lt (length s.nodes) most)
+    empty-names (Some prim) = attempt-names cost most held id parts (Empty prim) (Trial id parts.occurrence next.Normal ∷ k) s lists (nat_lt (length s.nodes) most)
 
     nil-names : (nil : Option ℕ) → Names (try_nil cost most held id parts nil k s)
     nil-names None = empty-names parts.tried.empty
-    nil-names (Some prim) = attempt-names cost most held id parts (Nil prim) (Trial id next.Empty ∷ k) s lists (nat_lt (length s.nodes) most)
+    nil-names (Some prim) = attempt-names cost most held id parts (Nil prim) (Trial id parts.occurrence next.Empty ∷ k) s lists (nat_lt (length s.nodes) most)
 
   element-names : (most : ℕ) (held : Held) (id : ℕ) (parts : Parts) (k : List Frame) (s : State) → All IsOne s.lists → (several : Bool)
       → Names (cond several (try_nil two_rows most held id parts parts.tried.nil k (marked s)) (attempt two_rows most held id parts Nothing k s))
@@ -243,7 +244,7 @@ module _ (count : ℕ) where
   branch-names cost held id place (Some child) k s lists = record { sought = tt; open_lists = lists }
 
   occurrence-names : (cost : Tally) (held : Held) (body : ℕ) (initiated : Bool) (left : ℕ) (k : List Frame) (s : State) → All IsOne s.lists → (none : Bool)
-      → Names (cond none (pass cost held (Leave Done) k s) (pass cost held (Enter body) (Occurrence body initiated (left - 1) ∷ k) (pointed initiated s)))
+      → Names (cond none (pass cost held (Leave Done) k s) (pass cost held (Enter body) (Occurrence body initiated (left - 1) ∷ k) (as_tried (pointed initiated s))))
   occurrence-names cost held body initiated left k s lists true = left_at Done k s lists
   occurrence-names cost held body initiated left k s lists false = record { sought = tt; open_lists = lists }
 
@@ -266,10 +267,10 @@ module _ (count : ℕ) where
   filled-names window sight low to NotYet k s lists = record { sought = tt; open_lists = lists }
   filled-names window sight low to Over k s lists = left_at _ k s lists
 
-  leave-box-names : (held : Held) (outer : Outside) (k : List Frame) (s : State) → All IsOne s.lists → (over : Bool)
-      → Names (cond over (pass nothing held (Leave Done) k (back_outside outer s)) (pass nothing held (PassRest s.at outer) k s))
-  leave-box-names held outer k s lists true = left_at Done k _ lists
-  leave-box-names held outer k s lists false = record { sought = tt; open_lists = lists }
+  leave-box-names : (held : Held) (outer : Outside) (from : ℕ) (k : List Frame) (s : State) → All IsOne s.lists → (over : Bool)
+      → Names (cond over (pass nothing held (Leave Done) k (back_outside outer (filled_from from s))) (pass nothing held (PassRest s.at outer) k (filled_from from s)))
+  leave-box-names held outer from k s lists true = left_at Done k _ lists
+  leave-box-names held outer from k s lists false = record { sought = tt; open_lists = lists }
 
   past-names : (sight : Held) (low byte : ℕ) (outer : Outside) (k : List Frame) (s : State) → All IsOne s.lists → (last : Bool)
       → Names (cond last (pass (needs_from low (saw_byte byte nothing)) sight (Leave Done) k (back_outside outer (record s { at = s.stop })))
@@ -364,6 +365,7 @@ module _ (count : ℕ) where
   statement-names limits table held id number (Some (Calculation calculation)) k s lists =
       left_at _ k _ (stated-lists limits table (At s.inside) number (Some (Calculation calculation)) s lists)
   statement-names limits table held id number (Some (Question question)) k s lists = left_at Done k s lists
+  statement-names limits table held id number (Some (Opening opening)) k s lists = left_at Done k s lists
 
   -- what has failed at a point that is resolved, or not
   failed-names : (held : Held) (end : End) (k : List Frame) (s : State) (other : Move) → All IsOne s.lists → Names other → (settled : Bool)
@@ -402,6 +404,8 @@ module _ (count : ℕ) where
     looks = λ slot t lists. record { sought = tt; open_lists = lists };
     enters = λ slot body bit empty t lists. record { sought = tt; open_lists = lists };
     seeks = λ slot t lists. record { sought = no-names; open_lists = lists };
+    counts = λ slot question t lists. record { sought = tt; open_lists = lists };
+    besides = λ slot body t lists. record { sought = tt; open_lists = lists };
   }
 
   abbrev HasLists : State → Type 0
@@ -429,21 +433,24 @@ module _ (count : ℕ) where
   leave-names limits table held (Rest id next) (Failed cause bit) k s lists = left_at _ k s lists
   leave-names limits table held (Element outer complex) Done k s lists = left_at Done k _ lists
   leave-names limits table held (Element outer complex) (Failed cause bit) k s lists = left_at _ k s lists
-  leave-names limits table held (Box outer) Done k s lists = leave-box-names held outer k s lists (nat_le s.stop s.at)
-  leave-names limits table held (Box outer) (Failed cause bit) k s lists = left_at _ k _ lists
+  leave-names limits table held (Box outer from) Done k s lists = leave-box-names held outer from k s lists (nat_le s.stop s.at)
+  leave-names limits table held (Box outer from) (Failed cause bit) k s lists = left_at _ k _ lists
+  leave-names limits table held (Spanning from) Done k s lists = left_at Done k _ lists
+  leave-names limits table held (Spanning from) (Failed cause bit) k s lists = left_at _ k s lists
   leave-names limits table held (ScopeFrame most) Done k s lists = left_at Done k _ (All-take IsOne most s.lists lists)
   leave-names limits table held (ScopeFrame most) (Failed cause bit) k s lists = left_at _ k _ (All-take IsOne most s.lists lists)
-  leave-names limits table held (Trial id next) Done k s lists = done-names held (parts_of (slice_get table.rows id)) next k s lists
-  leave-names limits table held (Trial id next) (Failed cause bit) k s lists =
-      retry-names limits.nodes held id (parts_of (slice_get table.rows id)) next (Failed cause bit) k s lists
+  leave-names limits table held (Trial id occurrence next) Done k s lists = done-names held (parts_of occurrence (slice_get table.rows id)) next k s lists
+  leave-names limits table held (Trial id occurrence next) (Failed cause bit) k s lists =
+      retry-names limits.nodes held id (parts_of occurrence (slice_get table.rows id)) next (Failed cause bit) k s lists
   leave-names limits table held (Branch id next) Done k s lists = left_at Done k (closed s) lists
   leave-names limits table held (Branch id next) (Failed cause bit) k s lists =
       failed-names held (Failed cause bit) k s _ lists
       (branch-names nothing held id next (slice_get (children_of (slice_get table.rows id)) next) k (back s) (back-lists s.marks s lists))
       (is_settled s.marks)
-  leave-names limits table held (Occurrence body initiated left) Done k s lists = passed-names held body initiated left k s lists (stays_at s.marks s.at)
+  leave-names limits table held (Occurrence body initiated left) Done k s lists = passed-names held body initiated left k (as_normal s) lists (stays_at s.marks s.at)
   leave-names limits table held (Occurrence body initiated left) (Failed cause bit) k s lists =
-      failed-names held (Failed cause bit) k s _ lists (left_at Done k (dropped s) (back-lists s.marks s lists)) (is_settled s.marks)
+      failed-names held (Failed cause bit) k (as_normal s) _ lists (left_at Done k (dropped (as_normal s)) (back-lists s.marks (as_normal s) lists))
+      (is_settled s.marks)
   leave-names limits table held (Times body left) Done k s lists =
       times-have (ListsWithin count) body k s (left_at Done k s lists) (λ more. record { sought = tt; open_lists = lists }) left
   leave-names limits table held (Times body left) (Failed cause bit) k s lists = left_at _ k s lists
@@ -453,13 +460,19 @@ module _ (count : ℕ) where
       failed-has Names HasLists held (separation_at table slot).initiated k (slot-lists (separation_at table slot).initiated) (slot-ways nothing held k) slot s lists
       (closed-lists s lists) (closed-lists (back s) (back-lists s.marks s lists)) (slots_from table slot) (Failed cause bit)
   leave-names limits table held (Content slot bit empty) Done k s lists =
-      ended-names held (separation_at table slot).initiated k slot s lists bit empty (slots_from table slot) (nat_lt bit s.at) None Done
+      ended-names held (separation_at table slot).initiated k slot (as_normal s) lists bit empty (slots_from table slot) (nat_lt bit s.at) None Done
   leave-names limits table held (Content slot bit empty) (Failed cause at) k s lists =
-      ended-names held (separation_at table slot).initiated k slot s lists bit empty (slots_from table slot) false (Some cause) (Failed cause at)
+      ended-names held (separation_at table slot).initiated k slot (as_normal s) lists bit empty (slots_from table slot) false (Some cause) (Failed cause at)
   leave-names limits table held (Closing slot bit) Done k s lists =
       closing-names held (separation_at table slot).initiated k slot s lists bit (slots_from table slot) true Done
   leave-names limits table held (Closing slot bit) (Failed cause at) k s lists =
       closing-names held (separation_at table slot).initiated k slot s lists bit (slots_from table slot) false (Failed cause at)
+  leave-names limits table held (Aside slot) Done k s lists =
+      beside-has Names HasLists held (separation_at table slot).initiated k (slot-lists (separation_at table slot).initiated) (slot-ways nothing held k) slot
+      (slots_from table slot) s lists
+  leave-names limits table held (Aside slot) (Failed cause bit) k s lists = left_at _ k s lists
+  leave-names limits table held InstanceFrame Done k s lists = left_at Done k _ lists
+  leave-names limits table held InstanceFrame (Failed cause bit) k s lists = left_at _ k _ lists
   leave-names limits table held (Concluding statements start) Done k s lists = left_at _ k _ (concluded-lists limits table statements start s lists)
   leave-names limits table held (Concluding statements start) (Failed cause bit) k s lists =
       left_at _ k _ (again-lists table start statements.first statements.count s lists)
@@ -473,7 +486,7 @@ module _ (count : ℕ) where
   told-names limits focus sight cost moves Missing k s lists each seeks = record { sought = seeks; open_lists = lists }
 
   occurs-names : (cost : Tally) (sight : Held) (initiated : Bool) (slot : SlotPlace) (body : ℕ) (k : List Frame) (s : State) → All IsOne s.lists → (empty before : Bool) (here : Here)
-      → Names (pass cost sight (Enter body) (Content slot s.at empty ∷ k) (cond before s (opened_at initiated here s)))
+      → Names (pass cost sight (Enter body) (Content slot s.at empty ∷ k) (as_occurrence (is_tried slot.rule) (cond before s (opened_at initiated here s))))
   occurs-names cost sight initiated slot body k s lists empty true here = record { sought = tt; open_lists = lists }
   occurs-names cost sight initiated slot body k s lists empty false here = record { sought = tt; open_lists = slot-lists initiated here s lists }
 
@@ -509,8 +522,8 @@ module _ (limits : Limits) (table : Table) (held : Held) (named : All (NamesWith
       leaf-names count one_row limits (Enter id) held table.delimiters (nil_values table.primitives s.instead)
       (slice_get table.primitives (read_by table.primitives s.instead prim)) k s tt lists
   enter-names id (Some (Elem name simple tried statements body)) k s is lists =
-      element-names count limits.nodes held id (record { complex = has_elements simple; tried = tried; body = body })
-      (with_behind statements (At (length s.nodes)) k) s lists tried.are_several
+      element-names count limits.nodes held id (parts_here s.instead (has_elements simple) tried body)
+      (with_behind statements (At (length s.nodes)) k) s lists (parts_here s.instead (has_elements simple) tried body).tried.are_several
   enter-names id (Some (Group children)) k s is lists = group-names count held id children k s lists
   enter-names id (Some (Skip bits)) k s is lists = begin-names count held (s.at + bits) k s lists (nat_le (s.at + bits) s.at) (nat_le (s.at + bits) s.stop)
   enter-names id (Some (Align bits)) k s is lists =
@@ -557,6 +570,10 @@ module _ (limits : Limits) (table : Table) (held : Held) (named : All (NamesWith
   enter-names id (Some (Statement number)) k s is lists = statement-names count limits table held id number (slice_get table.statements number) k s lists
   enter-names id (Some (Concluded statements body)) k s is lists = record { sought = tt; open_lists = lists }
   enter-names id (Some (Hidden body)) k s is lists = record { sought = tt; open_lists = lists }
+  enter-names id (Some (Spanned body)) k s is lists = record { sought = tt; open_lists = lists }
+  enter-names id (Some (Instance statement body)) k s is lists =
+      instanced-has (ListsWithin count) table body k s (λ variables why. left_at count _ k _ lists)
+      (λ variables. record { sought = tt; open_lists = lists }) (λ variables. record { sought = tt; open_lists = lists }) statement
   enter-names id (Some (Separated policy position initiated slots)) k s is lists =
       separated-has (Names count) (HasLists count) held initiated k (slot-lists count initiated) (slot-ways count one_row held k) id policy position slots s lists
 
@@ -579,6 +596,9 @@ module _ (limits : Limits) (table : Table) (held : Held) (named : All (NamesWith
       look_in-names count limits table.delimiters held (separation_at table slot).initiated slot (slots_from table slot) k s within.open_lists
   step-names (LookBehind slot bit) k s within =
       look_behind-names count limits table.delimiters held (separation_at table slot).initiated slot bit (slots_from table slot) k s within.open_lists
+  step-names (Count slot question) k s within =
+      count-has (Names count) (HasLists count) held (separation_at table slot).initiated k (slot-lists count (separation_at table slot).initiated)
+      (slot-ways count one_row held k) table slot question (slots_from table slot) s within.open_lists (λ kept. within.open_lists)
   step-names (Leave end) [] s within = within
   step-names (Leave end) (frame ∷ k) s within = leave-names count limits table held frame end k s within.open_lists
 

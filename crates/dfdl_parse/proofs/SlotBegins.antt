@@ -20,6 +20,7 @@ use Rattle.dfdl_grammar.specs.declared.limits.Limits.{Limits}
 use Rattle.dfdl_grammar.specs.States.{State, anchor}
 use Rattle.dfdl_grammar.specs.Delimiters.{lists_of, markup}
 use Rattle.dfdl_grammar.specs.Marks.{back, marked, outer_marks, pointed}
+use Rattle.dfdl_grammar.specs.Occurrences.{as_occurrence}
 use Rattle.dfdl_grammar.specs.Slots.{closed_slot, has_mark, is_empty_at, is_taken_back, is_tried, opens_before, separator_follows, taken_back}
 use Rattle.dfdl_parse.specs.declared.frame.Frame.{Frame}
 use Rattle.dfdl_parse.specs.declared.frame.Frame.TheVariants.{Before, Content}
@@ -80,7 +81,8 @@ module _ (held : Held) (slot : SlotPlace) (k : List Frame) (s : State) (has : Ha
   -- the separator was found
   tried-low : (slot_now : SlotPlace) (body : ℕ) → here_of slot_now.progress slot_now.rule ≡ here → slot_now.progress.stage ≡ stages.Content slot_now.rule
       → held.base ≤ s.at / 8 → (tried : Bool) → is_tried slot_now.rule ≡ tried → slot_now.rule ≡ slot.rule
-      → IsLow (cond tried (pass nothing held (LookIn slot_now) k s) (pass nothing held (Enter body) (Content slot_now s.at false ∷ k) s))
+      → IsLow (cond tried (pass nothing held (LookIn slot_now) k s)
+      (pass nothing held (Enter body) (Content slot_now s.at false ∷ k) (as_occurrence (is_tried slot_now.rule) s)))
   tried-low slot_now body same stage low true is rule = (
     low,
     (
@@ -189,7 +191,8 @@ module _ (held : Held) (slot : SlotPlace) (k : List Frame) (s : State) (stands :
   -- the occurrence begins
   entered-low : (cost : Tally) (initiated : Bool) (body : ℕ) (empty : Bool) → HasBefore (anchor s) k of_slot s → slot.progress.stage ≡ stages.Content slot.rule
       → is_tried slot.rule ≡ true → (before : Bool) → opens_before of_slot ≡ before
-      → IsLow (pass cost seen_from (Enter body) (Content slot s.at empty ∷ k) (cond before s (opened_at initiated of_slot s)))
+      → IsLow (pass cost seen_from (Enter body) (Content slot s.at empty ∷ k)
+      (as_occurrence (is_tried slot.rule) (cond before s (opened_at initiated of_slot s))))
   entered-low cost initiated body empty has stage tried true is =
       let there = opens-has (anchor s) k of_slot s has is in (
         stands.low,

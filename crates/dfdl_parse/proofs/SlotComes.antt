@@ -1,8 +1,9 @@
 -- What holds of each step of a slot, by the few kinds of steps that there are.
-use Rattle.std.proofs.Common.{◌≡◌, ℕ, ◌+◌, ◌-◌, List, [], ◌∷◌, Bool, true, false, cond, Option, Some, None}
+use Rattle.std.proofs.Common.{◌≡◌, ℕ, ◌+◌, ◌-◌, List, [], ◌∷◌, Bool, true, false, cond, Option, Some, None, Result, Ok, Err}
 use Rattle.dfdl_bits.specs.Window.{Held}
 use Rattle.dfdl_report.specs.declared.cause.ParseCause.{ParseCause}
-use Rattle.dfdl_report.specs.declared.cause.ParseCause.TheVariants.{SeparatorMissing}
+use Rattle.dfdl_report.specs.declared.cause.ParseCause.TheVariants.{ExpressionFault, NegativeCount, SeparatorMissing}
+use Rattle.dfdl_paths.specs.declared.place.Start.TheVariants as start
 use Rattle.dfdl_separators.specs.declared.moves.SlotMove.{SlotMove}
 use Rattle.dfdl_separators.specs.declared.moves.SlotMove.TheVariants.{TakeSeparator, LookForSeparator, Parse, Keep, Drop, EndArray, EndGroup, Fail}
 use Rattle.dfdl_separators.specs.declared.moves.SlotSeen.TheVariants as seen
@@ -14,28 +15,36 @@ use Rattle.dfdl_separators.specs.declared.verdict.SlotRule.TheVariants.{Required
 use Rattle.dfdl_separators.specs.Groups.{begun, ending, group_after, here_of, move_at}
 use Rattle.dfdl_separators.specs.Verdicts.{outcome}
 use Rattle.dfdl_terms.specs.declared.slots.Slot.{Slot}
+use Rattle.dfdl_terms.specs.Rows.{Table}
+use Rattle.dfdl_vars.specs.Kept.{Kept}
 use Rattle.dfdl_looks.specs.Tallies.{Tally, nothing, one_row, plus}
 use Rattle.dfdl_grammar.specs.declared.end.End.{End}
 use Rattle.dfdl_grammar.specs.declared.end.End.TheVariants.{Done, Failed}
 use Rattle.dfdl_grammar.specs.States.{State}
 use Rattle.dfdl_grammar.specs.Marks.{is_settled}
+use Rattle.dfdl_grammar.specs.Questions.{question_at}
+use Rattle.dfdl_grammar.specs.Occurrences.{as_occurrence}
 use Rattle.dfdl_grammar.specs.Slots.{closed_slot, emptied, is_blank, is_tried, opens_before, taken_back}
 use Rattle.dfdl_parse.specs.declared.frame.Coming.{Coming}
-use Rattle.dfdl_parse.specs.declared.frame.Coming.TheVariants.{Past, Seeks, Parses, Lacks, Over}
+use Rattle.dfdl_parse.specs.declared.frame.Coming.TheVariants.{Past, Seeks, Parses, Counts, Aside, Lacks, Over}
 use Rattle.dfdl_parse.specs.declared.frame.Frame.{Frame}
-use Rattle.dfdl_parse.specs.declared.frame.Frame.TheVariants.{Before, Content, Closing}
-use Rattle.dfdl_parse.specs.declared.frame.Focus.TheVariants.{Enter, Seek, LookIn, LookBehind, Leave}
+use Rattle.dfdl_parse.specs.declared.frame.Frame.TheVariants.{Before, Content, Closing, Aside as AsideFrame}
+use Rattle.dfdl_parse.specs.declared.frame.Focus.TheVariants.{Enter, Seek, LookIn, LookBehind, Count, Leave}
 use Rattle.dfdl_parse.specs.declared.frame.SlotPlace.{SlotPlace}
 use Rattle.dfdl_parse.specs.declared.frame.Sought.TheVariants.{Separator}
+use Rattle.dfdl_parse.specs.Asking.{behind_question, count_told, given_by}
 use Rattle.dfdl_parse.specs.Moves.{Move, pass}
-use Rattle.dfdl_parse.specs.Slots.{before_done, before_failed, closing_ended, coming_from, comes, content_begins, content_ended, decide, enter_separated, first_in, goes_on, opened_at, sequence_ends, settle, settled, unslotted, unsought, without_separator}
+use Rattle.dfdl_parse.specs.Slots.{before_done, before_failed, closing_ended, coming_from, comes, content_begins, content_ended, count_slots, counted_slots, decide, enter_separated, first_in, goes_beside, goes_on, opened_at, sequence_ends, settle, settled, unslotted, unsought, without_separator}
 
 -- the steps to what comes next, of states of which Q holds, keep P
 pub record Ways (P : Move → Type 0) (Q : State → Type 0) (cost : Tally) (held : Held) (k : List Frame) : Type 0 where
   pub leaves : (end : End) (t : State) → Q t → P (pass cost held (Leave end) k t)
   pub looks : (slot : SlotPlace) (t : State) → Q t → P (pass cost held (LookIn slot) k t)
-  pub enters : (slot : SlotPlace) (body bit : ℕ) (empty : Bool) (t : State) → Q t → P (pass cost held (Enter body) (Content slot bit empty ∷ k) t)
+  pub enters : (slot : SlotPlace) (body bit : ℕ) (empty : Bool) (t : State) → Q t
+      → P (pass cost held (Enter body) (Content slot bit empty ∷ k) (as_occurrence (is_tried slot.rule) t))
   pub seeks : (slot : SlotPlace) (t : State) → Q t → P (pass (plus cost one_row) held (Seek Separator) (Before slot ∷ k) t)
+  pub counts : (slot : SlotPlace) (question : ℕ) (t : State) → Q t → P (pass cost held (Count slot question) k t)
+  pub besides : (slot : SlotPlace) (body : ℕ) (t : State) → Q t → P (pass cost held (Enter body) (AsideFrame slot ∷ k) t)
 
 -- and so do those behind an occurrence
 pub record Behind (P : Move → Type 0) (Q : State → Type 0) (held : Held) (k : List Frame) : Type 0 where
@@ -46,7 +55,7 @@ module _ (P : Move → Type 0) (Q : State → Type 0) (held : Held) (initiated :
     (opens : (here : Here) (t : State) → Q t → Q (opened_at initiated here t)) where
   module _ (cost : Tally) (ways : Ways P Q cost held k) where
     tried-has : (slot : SlotPlace) (body : ℕ) (s : State) → Q s → (tried : Bool)
-        → P (cond tried (pass cost held (LookIn slot) k s) (pass cost held (Enter body) (Content slot s.at false ∷ k) s))
+        → P (cond tried (pass cost held (LookIn slot) k s) (pass cost held (Enter body) (Content slot s.at false ∷ k) (as_occurrence (is_tried slot.rule) s)))
     tried-has slot body s has true = ways.looks slot s has
     tried-has slot body s has false = ways.enters slot body s.at false s has
 
@@ -66,6 +75,8 @@ module _ (P : Move → Type 0) (Q : State → Type 0) (held : Held) (initiated :
     coming-has last (Past progress) s has = end-has (ending progress) last s has
     coming-has last (Seeks slot here) s has = seek-has slot here s has (opens_before here)
     coming-has last (Parses slot body) s has = content-has slot body s has
+    coming-has last (Counts slot question) s has = ways.counts slot question s has
+    coming-has last (Aside slot body) s has = ways.besides slot body s has
     coming-has last Lacks s has = ways.leaves (Failed SeparatorMissing s.at) s has
     coming-has last Over s has = ways.leaves Done s has
 
@@ -84,6 +95,23 @@ module _ (P : Move → Type 0) (Q : State → Type 0) (held : Held) (initiated :
         by after EndArray = going-has (record slot { progress = after; left = 0 }) own slots _ (back_has (here_of slot.progress slot.rule))
         by after (Fail fault) = ways.leaves end _ (closed_has (here_of slot.progress slot.rule))
         by after move = ways.leaves end s has
+
+  pub beside-has : (ways : Ways P Q nothing held k) (slot : SlotPlace) (slots : List Slot) (s : State) → Q s → P (goes_beside held initiated slot slots k s)
+  beside-has ways slot slots s has = coming-has nothing ways slot.last (first_in slot slots) s has
+
+  module _ (ways : Ways P Q one_row held k) where
+    counted-has : (slot : SlotPlace) (own : Slot) (slots : List Slot) (count : Result (Option ℕ) ℕ) (s : State) → Q s
+        → P (counted_slots held initiated slot own slots count k s)
+    counted-has slot own slots (Ok (Some count)) s has = going-has one_row ways (record slot { optional = false; left = count }) own slots s has
+    counted-has slot own slots (Ok None) s has = ways.leaves (Failed NegativeCount s.at) s has
+    counted-has slot own slots (Err fault) s has = ways.leaves (Failed (ExpressionFault fault) s.at) s has
+
+    pub count-has : (table : Table) (slot : SlotPlace) (question : ℕ) (slots : List Slot) (s : State) → Q s
+        → ((kept : Kept) → Q (record s { variables = kept })) → P (count_slots table held initiated slot question slots k s)
+    count-has table slot question [] s has read_has = ways.leaves Done s has
+    count-has table slot question (own ∷ slots) s has read_has =
+        let t : State = behind_question table (start.Inside s.inside) question s in
+        counted-has slot own slots (count_told (given_by table (start.Inside s.inside) (question_at table question) s)) t (read_has t.variables)
 
   pub separated-has : (ways : Ways P Q one_row held k) (id : ℕ) (policy : SeparatorSuppressionPolicy) (position : SeparatorPosition) (slots : List Slot) (s : State) → Q s
       → P (enter_separated held id policy position initiated slots k s)

@@ -1,7 +1,8 @@
 -- What comes next in a sequence finds the bytes that it needs.
-use Rattle.std.proofs.Common.{◌≡◌, ℕ, ◌+◌, ◌-◌, ◌*◌, ◌/◌, ◌≤◌, ◌&&◌, nat_eq, refl, ap, sym, subst, ◌∙◌, List, [], ◌∷◌, map, Bool, true, false, cond, arith}
+use Rattle.std.proofs.Common.{◌≡◌, ℕ, ◌+◌, ◌-◌, ◌*◌, ◌/◌, ◌≤◌, ◌&&◌, nat_eq, refl, ap, sym, subst, ◌∙◌, List, [], ◌∷◌, map, Bool, true, false, cond, Option, Some, None, Result, Ok, Err, arith}
 use Rattle.dfdl_bits.specs.Window.{Held}
 use Rattle.dfdl_report.specs.declared.cause.ParseCause.TheVariants.{SeparatorMissing}
+use Rattle.dfdl_paths.specs.declared.place.Start.TheVariants as start
 use Rattle.dfdl_separators.specs.declared.course.Known.TheVariants.{Begun}
 use Rattle.dfdl_separators.specs.declared.moves.SlotMove.{SlotMove}
 use Rattle.dfdl_separators.specs.declared.moves.SlotMove.TheVariants.{TakeSeparator, LookForSeparator, Parse, Keep, Drop, EndArray, EndGroup, Fail}
@@ -17,22 +18,26 @@ use Rattle.dfdl_separators.specs.Courses.{course}
 use Rattle.dfdl_separators.specs.Groups.{begun, ending, here_of, moved_by}
 use Rattle.dfdl_separators.specs.Verdicts.{begins, is_past, missing, rule_of}
 use Rattle.dfdl_terms.specs.declared.slots.Slot.{Slot}
-use Rattle.dfdl_looks.specs.Tallies.{Tally, one_row}
+use Rattle.dfdl_terms.specs.Rows.{Table}
+use Rattle.dfdl_looks.specs.Tallies.{Tally, nothing, one_row}
 use Rattle.dfdl_grammar.specs.declared.end.End.TheVariants.{Done, Failed}
 use Rattle.dfdl_grammar.specs.declared.mark.Mark.{Mark}
 use Rattle.dfdl_grammar.specs.States.{State}
 use Rattle.dfdl_grammar.specs.Framing.{aligned}
 use Rattle.dfdl_grammar.specs.Marks.{marked, outer_marks, pointed}
+use Rattle.dfdl_grammar.specs.Questions.{question_at}
+use Rattle.dfdl_grammar.specs.Occurrences.{as_occurrence}
 use Rattle.dfdl_grammar.specs.Slots.{has_mark, is_taken_back, is_tried, opens_before}
 use Rattle.dfdl_parse.specs.declared.frame.Coming.{Coming}
-use Rattle.dfdl_parse.specs.declared.frame.Coming.TheVariants.{Past, Seeks, Parses, Lacks, Over}
+use Rattle.dfdl_parse.specs.declared.frame.Coming.TheVariants.{Past, Seeks, Parses, Counts, Aside, Lacks, Over}
 use Rattle.dfdl_parse.specs.declared.frame.Frame.{Frame}
 use Rattle.dfdl_parse.specs.declared.frame.Frame.TheVariants.{Before, Content}
 use Rattle.dfdl_parse.specs.declared.frame.Focus.TheVariants.{Enter, LookIn, Leave}
 use Rattle.dfdl_parse.specs.declared.frame.SlotPlace.{SlotPlace}
+use Rattle.dfdl_parse.specs.Asking.{behind_question, count_told, given_by}
 use Rattle.dfdl_parse.specs.Moves.{Move, pass}
 use Rattle.dfdl_parse.specs.Opens.{AreNested, AreOpen, AreSuch, IsContent, Lie, NeedsFrom, before_at, before_points, first_at, outside_before, outside_slot, points_of, slot_at, slot_points}
-use Rattle.dfdl_parse.specs.Slots.{begins_by, coming_from, comes, content_begins, enter_separated, first_here, first_in, first_of, goes_on, opened_at, or_next, sequence_ends, then_tried}
+use Rattle.dfdl_parse.specs.Slots.{begins_by, coming_from, comes, content_begins, count_slots, counted_slots, enter_separated, first_here, first_in, first_of, first_row, first_told, goes_beside, goes_on, opened_at, or_next, sequence_ends, then_tried}
 
 -- the bytes that are needed behind a step are held
 abbrev pub IsLow : Move → Type 0
@@ -44,6 +49,8 @@ IsReady (Past progress) = Unit {0}
 IsReady (Seeks slot here) =
     ((slot.progress.stage ≡ stages.Before slot.rule) × (begins (here_of slot.progress slot.rule) ≡ true)) × (here_of slot.progress slot.rule ≡ here)
 IsReady (Parses slot body) = (slot.progress.stage ≡ stages.Content slot.rule) × (opens_before (here_of slot.progress slot.rule) ≡ false)
+IsReady (Counts slot question) = Unit {0}
+IsReady (Aside slot body) = Unit {0}
 IsReady Lacks = Unit {0}
 IsReady Over = Unit {0}
 
@@ -97,6 +104,8 @@ next-ready : (coming : Coming) (more : Progress → Coming) → IsReady coming �
 next-ready (Past progress) more ready each = each progress
 next-ready (Seeks slot here) more ready each = ready
 next-ready (Parses slot body) more ready each = ready
+next-ready (Counts slot question) more ready each = tt
+next-ready (Aside slot body) more ready each = tt
 next-ready Lacks more ready each = tt
 next-ready Over more ready each = tt
 
@@ -108,11 +117,21 @@ tried-ready slot own p =
 here-ready : (slot : SlotPlace) (own : Slot) → IsReady (first_here slot own)
 here-ready slot own = next-ready (first_of slot own) (then_tried slot own) (first_of-ready slot own) (tried-ready slot own)
 
+told-ready : (slot : SlotPlace) (own : Slot) (question : Option ℕ) → IsReady (first_told slot own question)
+told-ready slot own None = here-ready (record slot { optional = false; left = own.least }) own
+told-ready slot own (Some question) = tt
+
+row-ready : (slot : SlotPlace) (own : Slot) → IsReady (first_row slot own)
+row-ready slot own = by own.is_slotless
+  where
+    by : (slotless : Bool) → IsReady (cond slotless (Aside (record slot { place = slot.place + 1 }) own.body) (first_told slot own own.question))
+    by true = tt
+    by false = told-ready slot own own.question
+
 in-ready : (slots : List Slot) (slot : SlotPlace) → IsReady (first_in slot slots)
 in-ready [] slot = tt
 in-ready (own ∷ slots) slot =
-    let needed : SlotPlace = record slot { optional = false; left = own.least } in
-    next-ready (first_here needed own) (λ p. first_in (record slot { place = slot.place + 1; progress = p }) slots) (here-ready needed own)
+    next-ready (first_row slot own) (λ p. first_in (record slot { place = slot.place + 1; progress = p }) slots) (row-ready slot own)
     (λ p. in-ready slots (record slot { place = slot.place + 1; progress = p }))
 
 from-ready : (slot : SlotPlace) (own : Slot) (slots : List Slot) → IsReady (coming_from slot own slots)
@@ -177,7 +196,8 @@ module _ (cost : Tally) (held : Held) (initiated : Bool) (k : List Frame) (s : S
   -- a content begins, whose marks aren't open
   parse-low : (slot : SlotPlace) (body : ℕ) → slot.progress.stage ≡ stages.Content slot.rule → opens_before (here_of slot.progress slot.rule) ≡ false
       → (tried : Bool) → is_tried slot.rule ≡ tried
-      → IsLow (cond tried (pass cost held (LookIn slot) k s) (pass cost held (Enter body) (Content slot s.at false ∷ k) s))
+      → IsLow (cond tried (pass cost held (LookIn slot) k s)
+      (pass cost held (Enter body) (Content slot s.at false ∷ k) (as_occurrence (is_tried slot.rule) s)))
   parse-low slot body stage before true tried =
       let here : Here = here_of slot.progress slot.rule in (
         low,
@@ -216,11 +236,33 @@ module _ (cost : Tally) (held : Held) (initiated : Bool) (k : List Frame) (s : S
   coming-low last (Past progress) ready = end-low (ending progress) last
   coming-low last (Seeks slot here) ready = seek-low slot here ready.0 ready.1
   coming-low last (Parses slot body) ready = parse-low slot body ready.0 ready.1 (is_tried slot.rule) refl
+  coming-low last (Counts slot question) ready = (low, opens)
+  coming-low last (Aside slot body) ready = (low, opens)
   coming-low last Lacks ready = opens
   coming-low last Over ready = (low, opens)
 
   pub goes-low : (slot : SlotPlace) (own : Slot) (slots : List Slot) → IsLow (goes_on cost held initiated slot own slots k s)
   goes-low slot own slots = coming-low slot.last (coming_from slot own slots) (from-ready slot own slots)
+
+-- the sequence goes on behind a row without a slot
+pub beside-low : (held : Held) (initiated : Bool) (k : List Frame) (s : State) → held.base ≤ s.at / 8 → AreOpen held.base s.at k s.marks
+    → (slot : SlotPlace) (slots : List Slot) → IsLow (goes_beside held initiated slot slots k s)
+beside-low held initiated k s low opens slot slots = coming-low nothing held initiated k s low opens slot.last (first_in slot slots) (in-ready slots slot)
+
+-- it is asked how many slots of a row are required
+counted-low : (held : Held) (initiated : Bool) (k : List Frame) (s : State) → held.base ≤ s.at / 8 → AreOpen held.base s.at k s.marks
+    → (slot : SlotPlace) (own : Slot) (slots : List Slot) (count : Result (Option ℕ) ℕ) → IsLow (counted_slots held initiated slot own slots count k s)
+counted-low held initiated k s low opens slot own slots (Ok (Some count)) =
+    goes-low one_row held initiated k s low opens (record slot { optional = false; left = count }) own slots
+counted-low held initiated k s low opens slot own slots (Ok None) = opens
+counted-low held initiated k s low opens slot own slots (Err fault) = opens
+
+pub count-low : (table : Table) (held : Held) (initiated : Bool) (k : List Frame) (s : State) → held.base ≤ s.at / 8 → AreOpen held.base s.at k s.marks
+    → (slot : SlotPlace) (question : ℕ) (slots : List Slot) → IsLow (count_slots table held initiated slot question slots k s)
+count-low table held initiated k s low opens slot question [] = (low, opens)
+count-low table held initiated k s low opens slot question (own ∷ slots) =
+    counted-low held initiated k (behind_question table (start.Inside s.inside) question s) low opens slot own slots
+    (count_told (given_by table (start.Inside s.inside) (question_at table question) s))
 
 pub separated-low : (held : Held) (initiated : Bool) (k : List Frame) (s : State) → held.base ≤ s.at / 8 → AreOpen held.base s.at k s.marks
     → (id : ℕ) (policy : SeparatorSuppressionPolicy) (position : SeparatorPosition) (slots : List Slot)

@@ -1,5 +1,5 @@
 -- What the steps of slots make: each only passes on, at its cost; and what was spent before a slot ends was spent before what follows it.
-use Rattle.std.proofs.Common.{◌≡◌, ℕ, zero, suc, ◌+◌, ◌-◌, max, nat_lt, arith, refl, ap, sym, List, [], ◌∷◌, Bool, true, false, cond, Option, Some, None}
+use Rattle.std.proofs.Common.{◌≡◌, ℕ, zero, suc, ◌+◌, ◌-◌, max, nat_lt, arith, refl, ap, sym, List, [], ◌∷◌, Bool, true, false, cond, Option, Some, None, Result, Ok, Err}
 use Rattle.dfdl_bits.specs.Window.{Held}
 use Rattle.dfdl_report.specs.declared.cause.ParseCause.{ParseCause}
 use Rattle.dfdl_report.specs.declared.cause.ParseCause.TheVariants.{EmptyTrailingSlot}
@@ -12,24 +12,29 @@ use Rattle.dfdl_separators.specs.declared.progress.Progress.{Progress}
 use Rattle.dfdl_separators.specs.declared.verdict.Here.{Here}
 use Rattle.dfdl_separators.specs.Groups.{ending, group_after, here_of, move_at}
 use Rattle.dfdl_separators.specs.Verdicts.{outcome}
+use Rattle.dfdl_paths.specs.declared.place.Start.TheVariants as start
 use Rattle.dfdl_terms.specs.declared.slots.Slot.{Slot}
+use Rattle.dfdl_terms.specs.Rows.{Table}
 use Rattle.dfdl_looks.specs.Tallies.{Tally, first_of as first_told, nothing, one_row, plus}
 use Rattle.dfdl_grammar.specs.declared.end.End.{End}
 use Rattle.dfdl_grammar.specs.declared.end.End.TheVariants.{Done, Failed, Stopped}
 use Rattle.dfdl_grammar.specs.States.{State}
 use Rattle.dfdl_grammar.specs.Marks.{is_settled}
 use Rattle.dfdl_grammar.specs.Outcomes.{Outcome, spend}
+use Rattle.dfdl_grammar.specs.Questions.{question_at}
+use Rattle.dfdl_grammar.specs.Occurrences.{as_occurrence}
 use Rattle.dfdl_grammar.specs.Slots.{Course, Sequence, Turn, after_closing, after_content, after_separator, closed_slot, decide as decides, emptied, is_blank, is_tried, opens_before, settle as settles, taken_back, without_separator as lacks}
 use Rattle.dfdl_grammar.proofs.Spending.{spend-spend}
 use Rattle.dfdl_parse.specs.declared.frame.Coming.{Coming}
-use Rattle.dfdl_parse.specs.declared.frame.Coming.TheVariants.{Past, Seeks, Parses, Lacks, Over}
+use Rattle.dfdl_parse.specs.declared.frame.Coming.TheVariants.{Past, Seeks, Parses, Counts, Aside, Lacks, Over}
 use Rattle.dfdl_parse.specs.declared.frame.Frame.{Frame}
 use Rattle.dfdl_parse.specs.declared.frame.Frame.TheVariants.{Content}
 use Rattle.dfdl_parse.specs.declared.frame.Focus.{Focus}
 use Rattle.dfdl_parse.specs.declared.frame.Focus.TheVariants.{Enter, LookIn, Leave}
 use Rattle.dfdl_parse.specs.declared.frame.SlotPlace.{SlotPlace}
+use Rattle.dfdl_parse.specs.Asking.{behind_question, count_told, given_by}
 use Rattle.dfdl_parse.specs.Moves.{Move, pass}
-use Rattle.dfdl_parse.specs.Slots.{before_done, before_failed, closing_ended, coming_from, comes, content_begins, content_ended, decide, decided, enter_separated, goes_on, occurs, sequence_ends, settle, settled, unslotted, unsought, without_separator}
+use Rattle.dfdl_parse.specs.Slots.{before_done, before_failed, closing_ended, coming_from, comes, content_begins, content_ended, count_slots, counted_slots, decide, decided, enter_separated, first_in, goes_beside, goes_on, occurs, sequence_ends, settle, settled, unslotted, unsought, without_separator}
 use Rattle.dfdl_parse.specs.SlotsAhead.{before_slot, closing_slot, content_slot, course_of, outside, turn_of}
 
 -- a step that looks at nothing besides this cost, with these bytes held
@@ -53,7 +58,8 @@ row-passes cost held focus k s =
 
 module _ (held : Held) (initiated : Bool) (k : List Frame) where
   tried-passes : (cost : Tally) (slot : SlotPlace) (body : ℕ) (s : State) (tried : Bool)
-      → Passes cost held (cond tried (pass cost held (LookIn slot) k s) (pass cost held (Enter body) (Content slot s.at false ∷ k) s))
+      → Passes cost held (cond tried (pass cost held (LookIn slot) k s)
+      (pass cost held (Enter body) (Content slot s.at false ∷ k) (as_occurrence (is_tried slot.rule) s)))
   tried-passes cost slot body s true = pass-passes cost held _ _ _
   tried-passes cost slot body s false = pass-passes cost held _ _ _
 
@@ -68,6 +74,8 @@ module _ (held : Held) (initiated : Bool) (k : List Frame) where
   coming-passes cost last (Past progress) s = end-passes cost (ending progress) last s
   coming-passes cost last (Seeks slot here) s = row-passes cost held _ _ _
   coming-passes cost last (Parses slot body) s = content-passes cost slot body s
+  coming-passes cost last (Counts slot question) s = pass-passes cost held _ _ _
+  coming-passes cost last (Aside slot body) s = pass-passes cost held _ _ _
   coming-passes cost last Lacks s = pass-passes cost held _ _ _
   coming-passes cost last Over s = pass-passes cost held _ _ _
 
@@ -77,6 +85,22 @@ module _ (held : Held) (initiated : Bool) (k : List Frame) where
 
   going-passes : (cost : Tally) (slot : SlotPlace) (own : Slot) (slots : List Slot) (s : State) → Passes cost held (goes_on cost held initiated slot own slots k s)
   going-passes cost slot own slots s = coming-passes cost slot.last (coming_from slot own slots) s
+
+  pub beside-passes : (slot : SlotPlace) (slots : List Slot) (s : State) → Passes nothing held (goes_beside held initiated slot slots k s)
+  beside-passes slot slots s = coming-passes nothing slot.last (first_in slot slots) s
+
+  counted-passes : (slot : SlotPlace) (own : Slot) (slots : List Slot) (count : Result (Option ℕ) ℕ) (s : State)
+      → Passes one_row held (counted_slots held initiated slot own slots count k s)
+  counted-passes slot own slots (Ok (Some count)) s = going-passes one_row (record slot { optional = false; left = count }) own slots s
+  counted-passes slot own slots (Ok None) s = pass-passes one_row held _ _ _
+  counted-passes slot own slots (Err fault) s = pass-passes one_row held _ _ _
+
+  pub count-passes : (table : Table) (slot : SlotPlace) (question : ℕ) (slots : List Slot) (s : State)
+      → Passes one_row held (count_slots table held initiated slot question slots k s)
+  count-passes table slot question [] s = pass-passes one_row held _ _ _
+  count-passes table slot question (own ∷ slots) s =
+      counted-passes slot own slots (count_told (given_by table (start.Inside s.inside) (question_at table question) s))
+      (behind_question table (start.Inside s.inside) question s)
 
   settle-passes : (cost : Tally) (slot : SlotPlace) (bit : ℕ) (own : Slot) (slots : List Slot) (after : Progress) (move : SlotMove) (end : End) (s : State)
       → Passes cost held (settle cost held initiated slot bit own slots after move end k s)

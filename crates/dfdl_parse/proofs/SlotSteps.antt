@@ -1,10 +1,13 @@
 -- The steps of a sequence whose slots are tried do a part of what is ahead.
-use Rattle.std.proofs.Common.{◌≡◌, ℕ, zero, suc, ◌+◌, ◌-◌, ◌<◌, ◌&&◌, nat_eq, nat_lt, refl, List, [], ◌∷◌, drop, length, Bool, true, false, cond, Option, Some, None, ap, sym, subst, ◌∙◌, arith}
+use Rattle.std.proofs.Common.{◌≡◌, ℕ, zero, suc, ◌+◌, ◌-◌, ◌<◌, ◌&&◌, nat_eq, nat_lt, refl, List, [], ◌∷◌, drop, length, Bool, true, false, cond, Option, Some, None, Result, Ok, Err, ap, sym, subst, ◌∙◌, arith}
 use Rattle.std.proofs.lemmas.Bool.Decides.{nat_tests}
 use Rattle.std.specs.Prelude.{slice_get}
 use Rattle.dfdl_bits.specs.Window.{Held, from_byte, seen_at}
 use Rattle.dfdl_report.specs.declared.cause.ParseCause.{ParseCause}
-use Rattle.dfdl_report.specs.declared.cause.ParseCause.TheVariants.{EmptyTrailingSlot, SeparatorMissing}
+use Rattle.dfdl_report.specs.declared.cause.ParseCause.TheVariants.{EmptyTrailingSlot, ExpressionFault, NegativeCount, SeparatorMissing}
+use Rattle.dfdl_expressions.specs.declared.node.Node.{Node}
+use Rattle.dfdl_paths.specs.declared.place.Start.TheVariants as start
+use Rattle.dfdl_surroundings.specs.Taking.{count_taken}
 use Rattle.dfdl_separators.specs.declared.moves.SlotMove.{SlotMove}
 use Rattle.dfdl_separators.specs.declared.moves.SlotMove.TheVariants.{TakeSeparator, LookForSeparator, Parse, Keep, Drop, EndArray, EndGroup, Fail}
 use Rattle.dfdl_separators.specs.declared.moves.SlotSeen.TheVariants as seen
@@ -29,23 +32,27 @@ use Rattle.dfdl_grammar.specs.declared.end.End.TheVariants.{Done, Failed, Stoppe
 use Rattle.dfdl_grammar.specs.declared.end.Halt.{Halt}
 use Rattle.dfdl_grammar.specs.States.{Input, State, anchor}
 use Rattle.dfdl_grammar.specs.Marks.{is_settled, marked, pointed}
-use Rattle.dfdl_grammar.specs.Outcomes.{Outcome, ended, spend}
+use Rattle.dfdl_grammar.specs.Outcomes.{Outcome, ended, spend, then_do}
+use Rattle.dfdl_grammar.specs.Questions.{asked_count, question_at, told_count}
+use Rattle.dfdl_grammar.specs.Statements.{evaluated, with_reads}
 use Rattle.dfdl_grammar.specs.Delimiters.{lists_of, markup, separator}
 use Rattle.dfdl_grammar.specs.Rows.{below, meaning}
-use Rattle.dfdl_grammar.specs.Slots.{Course, Sequence, Tail, Turn, ask_separator, begin, closed_slot, content, decide as decides, emptied, ended_by, has_mark, in_slots, is_blank, is_empty_at, is_tried, occur, opened_slot, opens_before, peek, separated, separator_follows, settle as settles, settled_by, taken_back, times, untaken, without_separator as lacks}
+use Rattle.dfdl_grammar.specs.Occurrences.{as_occurrence, occurring, untried}
+use Rattle.dfdl_grammar.specs.Slots.{Course, Sequence, Tail, Turn, ask_separator, begin, closed_slot, content, decide as decides, emptied, ended_by, has_mark, in_row, in_slots, is_blank, is_empty_at, is_tried, occur, opened_slot, opens_before, peek, separated, separator_follows, settle as settles, settled_by, taken_back, then_slots, times, told_row, untaken, without_separator as lacks}
 use Rattle.dfdl_grammar.proofs.Spending.{spend-nothing, spend-spend}
 use Rattle.dfdl_grammar.proofs.Towers.{below-meaning}
 use Rattle.dfdl_parse.specs.declared.frame.Coming.{Coming}
-use Rattle.dfdl_parse.specs.declared.frame.Coming.TheVariants.{Past, Seeks, Parses, Lacks, Over}
+use Rattle.dfdl_parse.specs.declared.frame.Coming.TheVariants.{Past, Seeks, Parses, Counts, Aside, Lacks, Over}
 use Rattle.dfdl_parse.specs.declared.frame.Frame.{Frame}
-use Rattle.dfdl_parse.specs.declared.frame.Frame.TheVariants.{Before, Content, Closing}
-use Rattle.dfdl_parse.specs.declared.frame.Focus.TheVariants.{Enter, Seek, LookIn, LookBehind, Leave}
+use Rattle.dfdl_parse.specs.declared.frame.Frame.TheVariants.{Before, Content, Closing, Aside as AsideFrame}
+use Rattle.dfdl_parse.specs.declared.frame.Focus.TheVariants.{Enter, Seek, LookIn, LookBehind, Count, Leave}
 use Rattle.dfdl_parse.specs.declared.frame.SlotPlace.{SlotPlace}
 use Rattle.dfdl_parse.specs.declared.frame.Sought.TheVariants.{Separator}
+use Rattle.dfdl_parse.specs.Asking.{count_told, given_by, variables_behind}
 use Rattle.dfdl_parse.specs.Moves.{Machine, Move, pass}
 use Rattle.dfdl_parse.specs.Searches.{sought_text}
-use Rattle.dfdl_parse.specs.Slots.{Separation, before_done, before_failed, begins_by, closing_ended, coming_from, comes, content_begins, content_ended, decide, enter_separated, first_here, first_in, first_of, goes_on, look_behind, look_in, occurs, opened_at, or_next, separation_at, separation_of, sequence_ends, settle, settled, slots_from, then_tried, unslotted, unsought, without_separator}
-use Rattle.dfdl_parse.specs.SlotsAhead.{asked_behind, asked_in, before_slot, closing_slot, content_slot, course_of, following, occur_in, sequence_of, turn_of}
+use Rattle.dfdl_parse.specs.Slots.{Separation, before_done, before_failed, begins_by, closing_ended, coming_from, comes, content_begins, content_ended, count_slots, counted_slots, decide, enter_separated, first_here, first_in, first_of, first_row, first_told, goes_beside, goes_on, look_behind, look_in, occurs, opened_at, or_next, separation_at, separation_of, sequence_ends, settle, settled, slots_from, then_tried, unslotted, unsought, without_separator}
+use Rattle.dfdl_parse.specs.SlotsAhead.{asked_behind, asked_in, asked_slots, before_slot, beside_slots, closing_slot, content_slot, course_of, following, occur_in, sequence_of, turn_of}
 use Rattle.dfdl_parse.specs.Ahead.{ahead, finish}
 use Rattle.dfdl_parse.proofs.Finishes.{Anchored, Does, after_nothing, finish-spend}
 use Rattle.dfdl_parse.proofs.SlotAsks.{empty-from, peek-ahead, separator-from}
@@ -57,6 +64,8 @@ comes_or cost held initiated k s (Past progress) next = next progress
 comes_or cost held initiated k s (Seeks slot here) next =
     pass (plus cost one_row) held (Seek Separator) (Before slot ∷ k) (cond (opens_before here) (opened_at initiated here s) s)
 comes_or cost held initiated k s (Parses slot body) next = content_begins cost held slot body k s
+comes_or cost held initiated k s (Counts slot question) next = pass cost held (Count slot question) k s
+comes_or cost held initiated k s (Aside slot body) next = pass cost held (Enter body) (AsideFrame slot ∷ k) s
 comes_or cost held initiated k s Lacks next = pass cost held (Leave (Failed SeparatorMissing s.at)) k s
 comes_or cost held initiated k s Over next = pass cost held (Leave Done) k s
 
@@ -65,6 +74,8 @@ comes-are : (cost : Tally) (held : Held) (initiated : Bool) (k : List Frame) (s 
 comes-are cost held initiated k s last (Past progress) = refl
 comes-are cost held initiated k s last (Seeks slot here) = refl
 comes-are cost held initiated k s last (Parses slot body) = refl
+comes-are cost held initiated k s last (Counts slot question) = refl
+comes-are cost held initiated k s last (Aside slot body) = refl
 comes-are cost held initiated k s last Lacks = refl
 comes-are cost held initiated k s last Over = refl
 
@@ -74,6 +85,8 @@ next-are : (cost : Tally) (held : Held) (initiated : Bool) (k : List Frame) (s :
 next-are cost held initiated k s (Past progress) more next = refl
 next-are cost held initiated k s (Seeks slot here) more next = refl
 next-are cost held initiated k s (Parses slot body) more next = refl
+next-are cost held initiated k s (Counts slot question) more next = refl
+next-are cost held initiated k s (Aside slot body) more next = refl
 next-are cost held initiated k s Lacks more next = refl
 next-are cost held initiated k s Over more next = refl
 
@@ -96,15 +109,17 @@ module _ (input : Input) (table : Table) where
       by : (tried : Bool) → Does input table
           (finish input table k (spend cost (cond tried (asked_in (sequence_at slot) slot (own ∷ slots) s)
           (occur (sequence_at slot) (turn_of (sequence_at slot) slot own slots) (course_of slot) false s))))
-          (cond tried (pass cost held (LookIn slot) k s) (pass cost held (Enter own.body) (Content slot s.at false ∷ k) s))
+          (cond tried (pass cost held (LookIn slot) k s)
+          (pass cost held (Enter own.body) (Content slot s.at false ∷ k) (as_occurrence (is_tried slot.rule) s)))
       by true =
           finish-spend input table k cost (asked_in (sequence_at slot) slot (own ∷ slots) s)
           ∙ ap (λ (all : List Slot). spend cost (finish input table k (asked_in (sequence_at slot) slot all s))) (sym is)
       by false =
           finish-spend input table k cost (occur (sequence_at slot) (turn_of (sequence_at slot) slot own slots) (course_of slot) false s)
-          ∙ ap (λ (o : Outcome). spend cost (finish input table k (content_slot (sequence_at slot) slot s.at false (own ∷ slots) o)))
-          (below-meaning input table slot.sequence own.body s less)
-          ∙ ap (λ (all : List Slot). spend cost (finish input table k (content_slot (sequence_at slot) slot s.at false all (meaning input table own.body s)))) (sym is)
+          ∙ ap (λ (o : Outcome). spend cost (finish input table k (content_slot (sequence_at slot) slot s.at false (own ∷ slots) (untried o.end o))))
+          (below-meaning input table slot.sequence own.body (as_occurrence (is_tried slot.rule) s) less)
+          ∙ ap (λ (all : List Slot). spend cost (finish input table k (content_slot (sequence_at slot) slot s.at false all
+          (occurring (is_tried slot.rule) (meaning input table own.body) s)))) (sym is)
 
   -- a slot begins by its first move, where what follows it if it isn't there does its part
   begins-ahead : (cost : Tally) (held : Held) (slot : SlotPlace) (own : Slot) (slots : List Slot) (k : List Frame) (s : State)
@@ -193,6 +208,46 @@ module _ (input : Input) (table : Table) where
   ends-ahead cost held (Fail fault) course k s = finish-spend input table k cost (ended (Failed EmptyTrailingSlot course.last) s)
   ends-ahead cost held move course k s = finish-spend input table k cost (ended Done s)
 
+  -- the first slot of a row, of which a question may tell how many are required
+  told-ahead : (cost : Tally) (held : Held) (slot : SlotPlace) (own : Slot) (slots : List Slot) (k : List Frame) (s : State)
+      → slots_from table slot ≡ own ∷ slots → own.body < slot.sequence → (moves : Progress → Move)
+      → ((p : Progress) → Does input table
+      (finish input table k (spend cost (in_slots (sequence_at slot) slots (record { progress = p; last = slot.last }) s))) (moves p))
+      → (question : Option ℕ) → Does input table
+      (finish input table k (spend cost (told_row (sequence_at slot) own question (in_slots (sequence_at slot) slots) (course_of slot) s)))
+      (comes_or cost held (initiated_at slot) k s (first_told slot own question) moves)
+  told-ahead cost held slot own slots k s is less moves each None = row-ahead cost held slot own slots k s is less moves each false own.least
+  told-ahead cost held slot own slots k s is less moves each (Some question) =
+      finish-spend input table k cost (asked_slots (sequence_at slot) slot question (own ∷ slots) s)
+      ∙ ap (λ (all : List Slot). spend cost (finish input table k (asked_slots (sequence_at slot) slot question all s))) (sym is)
+
+  -- the same, or the row itself, if it has none
+  then-ahead : (cost : Tally) (held : Held) (slot : SlotPlace) (own : Slot) (slots : List Slot) (k : List Frame) (s : State)
+      → slots_from table slot ≡ own ∷ slots → own.body < slot.sequence → (moves : Progress → Move)
+      → ((p : Progress) → Does input table
+      (finish input table k (spend cost (in_slots (sequence_at slot) slots (record { progress = p; last = slot.last }) s))) (moves p))
+      → Does input table
+      (finish input table k (spend cost (then_slots (sequence_at slot) own (in_slots (sequence_at slot) slots) (course_of slot) s)))
+      (comes_or cost held (initiated_at slot) k s (first_row slot own) moves)
+  unfolding finish
+  then-ahead cost held slot own slots k s is less moves each = by own.is_slotless
+    where
+      behind : SlotPlace
+      behind = record slot { place = slot.place + 1 }
+
+      by : (slotless : Bool) → Does input table
+          (finish input table k (spend cost (cond slotless
+          (then_do (below input table slot.sequence own.body s) (in_slots (sequence_at slot) slots (course_of slot)))
+          (told_row (sequence_at slot) own own.question (in_slots (sequence_at slot) slots) (course_of slot) s))))
+          (comes_or cost held (initiated_at slot) k s (cond slotless (Aside behind own.body) (first_told slot own own.question)) moves)
+      by true =
+          finish-spend input table k cost (then_do (below input table slot.sequence own.body s) (in_slots (sequence_at slot) slots (course_of slot)))
+          ∙ ap (λ (o : Outcome). spend cost (finish input table k (then_do o (in_slots (sequence_at slot) slots (course_of slot)))))
+          (below-meaning input table slot.sequence own.body s less)
+          ∙ ap (λ (all : List Slot). spend cost (finish input table k (then_do (meaning input table own.body s) (in_slots (sequence_at slot) all (course_of slot)))))
+          (sym (drop-next slot.place (separation_at table slot).slots own slots is))
+      by false = told-ahead cost held slot own slots k s is less moves each own.question
+
   -- the first slot of some rows
   in-ahead : (cost : Tally) (held : Held) (k : List Frame) (s : State) (slots : List Slot) (slot : SlotPlace) → slots_from table slot ≡ slots
       → AreBelow slot.sequence slots → Does input table
@@ -200,15 +255,13 @@ module _ (input : Input) (table : Table) where
       (comes_or cost held (initiated_at slot) k s (first_in slot slots) (λ p. sequence_ends cost held (ending p) slot.last k s))
   in-ahead cost held k s [] slot is below = ends-ahead cost held (ending slot.progress) (course_of slot) k s
   in-ahead cost held k s (own ∷ slots) slot is below =
-      let needed : SlotPlace = record slot { optional = false; left = own.least } in
       let ends : Progress → Move = λ p. sequence_ends cost held (ending p) slot.last k s in
-      row-ahead cost held slot own slots k s is below.0
+      then-ahead cost held slot own slots k s is below.0
       (λ p. comes_or cost held (initiated_at slot) k s (first_in (record slot { place = slot.place + 1; progress = p }) slots) ends)
       (λ p. in-ahead cost held k s slots (record slot { place = slot.place + 1; progress = p })
       (drop-next slot.place (separation_at table slot).slots own slots is) below.1)
-      false own.least
       ∙ ap (λ (move : Move). spend move.tally (ahead input table move.machine))
-      (sym (next-are cost held (initiated_at slot) k s (first_here needed own) (λ p. first_in (record slot { place = slot.place + 1; progress = p }) slots) ends))
+      (sym (next-are cost held (initiated_at slot) k s (first_row slot own) (λ p. first_in (record slot { place = slot.place + 1; progress = p }) slots) ends))
 
   -- a sequence begins
   pub separated-ahead : (held : Held) (id : ℕ) (policy : SeparatorSuppressionPolicy) (position : SeparatorPosition) (initiated : Bool) (slots : List Slot)
@@ -216,7 +269,7 @@ module _ (input : Input) (table : Table) where
       → Does input table
       (finish input table k (spend one_row (separated (record {
         input = input;
-        delimiters = table.delimiters;
+        table = table;
         child = below input table id;
         position = position;
         initiated = initiated;
@@ -228,7 +281,7 @@ module _ (input : Input) (table : Table) where
       let same : separation_of (slice_get table.rows id) ≡ record { position = position; initiated = initiated; slots = slots } = ap separation_of is in
       ap (λ (of : Separation). finish input table k (spend one_row (in_slots (record {
         input = input;
-        delimiters = table.delimiters;
+        table = table;
         child = below input table id;
         position = of.position;
         initiated = of.initiated;
@@ -258,6 +311,42 @@ module _ (input : Input) (table : Table) where
       (sym (next-are cost held (initiated_at slot) k s (first_here slot own) (λ p. first_in (record slot { place = slot.place + 1; progress = p }) slots) ends))
       ∙ ap (λ (move : Move). spend move.tally (ahead input table move.machine))
       (sym (comes-are cost held (initiated_at slot) k s slot.last (coming_from slot own slots)))
+
+  -- the sequence goes on behind a row without a slot
+  pub beside-ahead : (held : Held) (slot : SlotPlace) (k : List Frame) (s : State) → AreBelow slot.sequence (slots_from table slot)
+      → Does input table (finish input table k (beside_slots input table slot (ended Done s)))
+      (goes_beside held (initiated_at slot) slot (slots_from table slot) k s)
+  beside-ahead held slot k s below =
+      in-ahead nothing held k s (slots_from table slot) slot refl below
+      ∙ ap (λ (move : Move). spend move.tally (ahead input table move.machine))
+      (sym (comes-are nothing held (initiated_at slot) k s slot.last (first_in slot (slots_from table slot))))
+
+  -- it is asked how many slots of a row are required
+  module _ (held : Held) (slot : SlotPlace) (own : Slot) (slots : List Slot) (k : List Frame) (is : slots_from table slot ≡ own ∷ slots)
+      (below : AreBelow slot.sequence (own ∷ slots)) where
+    abbrev following_count : ℕ → State → Outcome
+    following_count count after = in_row (sequence_at slot) own count (in_slots (sequence_at slot) slots) (course_of slot) after
+
+    count_told-ahead : (count : Result (Option ℕ) ℕ) (s : State) → Does input table
+        (finish input table k (spend one_row (told_count NegativeCount following_count count s)))
+        (counted_slots held (initiated_at slot) slot own slots count k s)
+    count_told-ahead (Ok (Some count)) s = goes-ahead one_row held (record slot { optional = false; left = count }) own slots k s is below
+    count_told-ahead (Ok None) s = finish-spend input table k one_row (ended (Failed NegativeCount s.at) s)
+    count_told-ahead (Err fault) s = finish-spend input table k one_row (ended (Failed (ExpressionFault fault) s.at) s)
+
+    count_asked-ahead : (s : State) (found : Option (List Node)) → Does input table
+        (finish input table k (spend one_row (asked_count table (start.Inside s.inside) NegativeCount following_count found s)))
+        (counted_slots held (initiated_at slot) slot own slots (count_told (given_by table (start.Inside s.inside) found s)) k
+        (record s { variables = variables_behind table (start.Inside s.inside) found s }))
+    count_asked-ahead s None = count_told-ahead (Ok None) s
+    count_asked-ahead s (Some expression) =
+        count_told-ahead (count_taken (evaluated table (start.Inside s.inside) expression s)) (with_reads table (start.Inside s.inside) expression s)
+
+  pub count-ahead : (held : Held) (slot : SlotPlace) (question : ℕ) (k : List Frame) (s : State) (slots : List Slot) → slots_from table slot ≡ slots
+      → AreBelow slot.sequence slots → Does input table (finish input table k (asked_slots (sequence_at slot) slot question slots s))
+      (count_slots table held (initiated_at slot) slot question slots k s)
+  count-ahead held slot question k s [] is below = finish-spend input table k one_row (ended Done s)
+  count-ahead held slot question k s (own ∷ slots) is below = count_asked-ahead held slot own slots k is below s (question_at table question)
 
   -- what a slot comes to
   module _ (slot : SlotPlace) (own : Slot) (slots : List Slot) (is : slots_from table slot ≡ own ∷ slots) (below : AreBelow slot.sequence (own ∷ slots)) where
@@ -342,11 +431,13 @@ module _ (input : Input) (table : Table) where
     occurs-ahead cost held empty k s =
         let t : State = cond (opens_before here) s (opened_at (initiated_at slot) here s) in
         finish-spend input table k cost (occur_in seq slot own slots empty s)
-        ∙ ap (λ (o : Outcome). spend cost (finish input table k (content_slot seq slot t.at empty (own ∷ slots) o)))
-        (below-meaning input table slot.sequence own.body t below.0)
-        ∙ ap (λ (bit : ℕ). spend cost (finish input table k (content_slot seq slot bit empty (own ∷ slots) (meaning input table own.body t))))
+        ∙ ap (λ (o : Outcome). spend cost (finish input table k (content_slot seq slot t.at empty (own ∷ slots) (untried o.end o))))
+        (below-meaning input table slot.sequence own.body (as_occurrence (is_tried slot.rule) t) below.0)
+        ∙ ap (λ (bit : ℕ). spend cost (finish input table k (content_slot seq slot bit empty (own ∷ slots)
+        (occurring (is_tried slot.rule) (meaning input table own.body) t))))
         (opened-at (initiated_at slot) (opens_before here) (is_tried slot.rule) (has_mark here) s)
-        ∙ ap (λ (all : List Slot). spend cost (finish input table k (content_slot seq slot s.at empty all (meaning input table own.body t)))) (sym is)
+        ∙ ap (λ (all : List Slot). spend cost (finish input table k (content_slot seq slot s.at empty all
+        (occurring (is_tried slot.rule) (meaning input table own.body) t)))) (sym is)
 
   -- what waits in a slot takes an end
   module _ (held : Held) (slot : SlotPlace) (k : List Frame) (s : State) where

@@ -16,7 +16,7 @@ use Rattle.dfdl_surroundings.specs.Taking.{taken, truth_taken}
 use Rattle.dfdl_vars.specs.Kept.{Kept, fault_now}
 use Rattle.dfdl_vars.specs.declared.instances.VarFault.{VarFault}
 use Rattle.dfdl_terms.specs.declared.statement.Statement.{Statement}
-use Rattle.dfdl_terms.specs.declared.statement.Statement.TheVariants.{Pattern, Expression, Setting, Calculation, Question}
+use Rattle.dfdl_terms.specs.declared.statement.Statement.TheVariants.{Pattern, Expression, Setting, Calculation, Question, Opening}
 use Rattle.dfdl_terms.specs.declared.statement.Statements.{Statements}
 use Rattle.dfdl_terms.specs.Rows.{Table}
 use Rattle.dfdl_looks.specs.Asks.{Told}
@@ -103,6 +103,7 @@ module _ (P : End → State → Type 0) (resolves : (s : State) → P Done s →
       calculated-comes limits (taken calculation.kind (evaluated table start calculation.expression s)) (with_reads table start calculation.expression s)
       (read-comes table start calculation.expression s is)
   stated-comes limits table start number (Some (Question question)) s is = is
+  stated-comes limits table start number (Some (Opening opening)) s is = is
 
   follow-comes : (end : End) (s : State) (t : Tally) (next : State → Outcome) → P end s → ((u : State) → P Done u → P (next u).end (next u).state)
       → let o : Outcome = follow end (record { end = end; state = s; tally = t }) next in P o.end o.state
@@ -155,6 +156,7 @@ module _ (Q : State → Type 0) (resolves : (s : State) → Q s → Q (resolved 
   one-again table start (Some (Setting setting)) s is = is
   one-again table start (Some (Calculation calculation)) s is = is
   one-again table start (Some (Question question)) s is = is
+  one-again table start (Some (Opening opening)) s is = is
 
   pub all-again : (table : Table) (start : Start) (first count : ℕ) (s : State) → Q s → Q (reconsidered_from table start first count s)
   unfolding reconsidered_from
@@ -199,6 +201,7 @@ stated-nothing limits table start number (Some (Setting setting)) s =
 stated-nothing limits table start number (Some (Calculation calculation)) s =
     calculated-nothing limits (taken calculation.kind (evaluated table start calculation.expression s)) (with_reads table start calculation.expression s)
 stated-nothing limits table start number (Some (Question question)) s = refl
+stated-nothing limits table start number (Some (Opening opening)) s = refl
 
 -- at most one frame more
 pub few-behind : (statements : Statements) (start : Start) (k : List Frame) → length (with_behind statements start k) ≤ length k + 1

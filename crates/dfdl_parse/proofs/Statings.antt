@@ -32,6 +32,7 @@ use Rattle.dfdl_grammar.specs.declared.end.End.TheVariants.{Done, Failed, Stoppe
 use Rattle.dfdl_grammar.specs.declared.limits.Limits.{Limits}
 use Rattle.dfdl_grammar.specs.Outcomes.{Outcome, ended, follow, then_do}
 use Rattle.dfdl_grammar.specs.States.{State}
+use Rattle.dfdl_grammar.specs.Spans.{vacant}
 use Rattle.dfdl_grammar.specs.Statements.{around_at, calculated, evaluated, reconsidered, reconsidered_from, stated, stated_from, told_at, with_end, with_reads}
 use Rattle.dfdl_parse.specs.declared.frame.Focus.{Focus}
 use Rattle.dfdl_parse.specs.declared.frame.Focus.TheVariants.{Leave}
@@ -343,21 +344,21 @@ module _ (old new : Parser) (limits : Limits) (table : Table) (focus : Focus) (h
 
 -- what stands around an expression, as the code has it
 pub around-same : (table : Table) (start : Start) (p : Parser) (seen : Seen)
-    → seen ≡ record { names = table.names; nodes = p.region.nodes; text = p.text.bytes; lengths = []; marks = p.items; start = start }
+    → seen ≡ record { names = table.names; nodes = p.region.nodes; text = p.text.bytes; marks = p.items; start = start }
     → p.items ≡ item_marks table.rows → around seen p.variables ≡ around_at table start (state_of p)
 around-same table start p seen is items =
     ap (λ (x : Seen). around x p.variables) is
-    ∙ ap (λ (marks : List Bool). around (record { names = table.names; nodes = p.region.nodes; text = p.text.bytes; lengths = []; marks = marks; start = start }) p.variables) items
+    ∙ ap (λ (marks : List Bool). around (record { names = table.names; nodes = p.region.nodes; text = p.text.bytes; marks = marks; start = start }) p.variables) items
 
 pub evaluated-same : (table : Table) (start : Start) (p : Parser) (seen : Seen) (expression : List Node)
-    → seen ≡ record { names = table.names; nodes = p.region.nodes; text = p.text.bytes; lengths = []; marks = p.items; start = start }
+    → seen ≡ record { names = table.names; nodes = p.region.nodes; text = p.text.bytes; marks = p.items; start = start }
     → p.items ≡ item_marks table.rows
     → gives (meaning expression) (answer_in (around seen p.variables)) ≡ evaluated table start expression (state_of p)
 evaluated-same table start p seen expression is items =
     ap (λ (a : Around). gives (meaning expression) (answer_in a)) (around-same table start p seen is items)
 
 pub reads-same : (table : Table) (start : Start) (old new : Parser) (seen : Seen) (expression : List Node)
-    → seen ≡ record { names = table.names; nodes = old.region.nodes; text = old.text.bytes; lengths = []; marks = old.items; start = start }
+    → seen ≡ record { names = table.names; nodes = old.region.nodes; text = old.text.bytes; marks = old.items; start = start }
     → old.items ≡ item_marks table.rows
     → new ≡ record old { variables = new.variables; evaluation = new.evaluation }
     → new.variables ≡ (left_by answer_in read_in (meaning expression) (around seen old.variables)).variables
@@ -369,10 +370,10 @@ reads-same table start old new seen expression is items same reads =
 
 -- a text is one of characters
 pub text-given : (limits : Limits) (text : List ℕ) (old new : Parser) → is_utf8 text ≡ true → limits.text ≡ old.text.most
-    → Comes old (hold old.text.most content.Text text old.at (state_of old)) new → Comes old (calculated limits (Ok (value.Text text)) (state_of old)) new
+    → Comes old (hold old.text.most content.Text text (vacant old.at) (state_of old)) new → Comes old (calculated limits (Ok (value.Text text)) (state_of old)) new
 text-given limits text old new utf8 most comes =
-    subst (λ (b : Bool). Comes old (cond b (hold limits.text content.Text text old.at (state_of old)) (ended (Failed (ExpressionFault 6) old.at) (state_of old))) new) (sym utf8)
-    (subst (λ (n : ℕ). Comes old (hold n content.Text text old.at (state_of old)) new) (sym most) comes)
+    subst (λ (b : Bool). Comes old (cond b (hold limits.text content.Text text (vacant old.at) (state_of old)) (ended (Failed (ExpressionFault 6) old.at) (state_of old))) new) (sym utf8)
+    (subst (λ (n : ℕ). Comes old (hold n content.Text text (vacant old.at) (state_of old)) new) (sym most) comes)
 
 -- what an outcome is behind an expression
 pub after-reads : (old mid new : Parser) (o : State → Outcome) (s : State) → mid ≡ record old { variables = mid.variables; evaluation = mid.evaluation }

@@ -10,7 +10,7 @@ use Rattle.dfdl_value.specs.declared.value.Value.{Value}
 use Rattle.dfdl_terms.specs.declared.row.Primitive.{Primitive}
 use Rattle.dfdl_delims.specs.Longest.{Longest}
 use Rattle.dfdl_terms.specs.declared.row.Row.{Row}
-use Rattle.dfdl_terms.specs.declared.row.Row.TheVariants.{Leaf, Elem, Group, Skip, Align, Initiator, Terminator, Separator, Scope, Boxed, PrefixedLeaf, PrefixedBox, MeasuredLeaf, MeasuredBox, Repeat, Counted, Optional, Choice, Dispatch, Statement, Concluded, Hidden, Separated}
+use Rattle.dfdl_terms.specs.declared.row.Row.TheVariants.{Leaf, Elem, Group, Skip, Align, Initiator, Terminator, Separator, Scope, Boxed, PrefixedLeaf, PrefixedBox, MeasuredLeaf, MeasuredBox, Repeat, Counted, Optional, Choice, Dispatch, Statement, Concluded, Hidden, Spanned, Instance, Separated}
 use Rattle.dfdl_terms.specs.Rows.{Table}
 use Rattle.dfdl_looks.specs.Looks.{seen_in}
 use Rattle.dfdl_looks.specs.Asks.{Ask, AsksFrom, Reached, Told, TooFar, Missing, Reading, ask}
@@ -29,20 +29,21 @@ use Rattle.dfdl_grammar.specs.Outcomes.{Outcome, ended, spend}
 use Rattle.dfdl_terms.specs.declared.text.TextSize.{TextSize}
 use Rattle.dfdl_grammar.specs.Leaves.{Find, content_begins, has_room, land, leaf, nil_values, program, program_for, read_by}
 use Rattle.dfdl_grammar.specs.Prefixes.{bits_of_units, land_prefix, leaf_of, prefixed, resized, size_of, sized_leaf}
-use Rattle.dfdl_grammar.specs.Boxes.{boxed}
+use Rattle.dfdl_grammar.specs.Boxes.{boxed, filled_from}
 use Rattle.dfdl_grammar.specs.Framing.{aligned, fill_to}
 use Rattle.dfdl_grammar.specs.Delimiters.{lists_of, markup, sought_among, stands_in}
 use Rattle.dfdl_grammar.specs.Elements.{begun, has_elements}
 use Rattle.dfdl_grammar.specs.Rows.{below, meaning, row}
 use Rattle.dfdl_grammar.proofs.Spending.{spend-spend, spend-nothing}
+use Rattle.dfdl_grammar.specs.Occurrences.{as_normal}
 use Rattle.dfdl_parse.specs.declared.frame.Frame.{Frame}
-use Rattle.dfdl_parse.specs.declared.frame.Frame.TheVariants.{Rest, Element, Box, Scope as ScopeFrame, Trial, Branch, Occurrence, Times, Before, Content, Closing, Concluding}
+use Rattle.dfdl_parse.specs.declared.frame.Frame.TheVariants.{Rest, Element, Box, Spanning, Scope as ScopeFrame, Trial, Branch, Occurrence, Times, Before, Content, Closing, Aside, Concluding, Instance as InstanceFrame}
 use Rattle.dfdl_parse.specs.declared.frame.Outside.{Outside}
 use Rattle.dfdl_parse.specs.declared.frame.Next.{Next}
 use Rattle.dfdl_parse.specs.declared.frame.Next.TheVariants as next
 use Rattle.dfdl_parse.specs.declared.frame.Parts.{Parts}
 use Rattle.dfdl_parse.specs.declared.frame.Focus.{Focus}
-use Rattle.dfdl_parse.specs.declared.frame.Focus.TheVariants.{Enter, Pass, PassRest, Sized, Seek, LookIn, LookBehind, Leave}
+use Rattle.dfdl_parse.specs.declared.frame.Focus.TheVariants.{Enter, Pass, PassRest, Sized, Seek, LookIn, LookBehind, Count, Leave}
 use Rattle.dfdl_parse.specs.declared.frame.Behind.TheVariants as behind
 use Rattle.dfdl_parse.specs.Boxing.{back_outside, hides}
 use Rattle.dfdl_parse.specs.declared.frame.Sought.{Sought}
@@ -51,7 +52,7 @@ use Rattle.dfdl_parse.specs.Searches.{among, found_text, place_of, search}
 use Rattle.dfdl_parse.specs.Moves.{Machine, Move, is_missing, landed, pass, read_leaf, read_move}
 use Rattle.dfdl_parse.specs.Prefixed.{behind_units, landed_prefix, prefix_move, read_prefix, read_resized, read_sized}
 use Rattle.dfdl_parse.specs.Machines.{children_of, enter, enter_group, fill, fill_move, go_on, leave, pass_rest, rest_move, seen_beyond, step}
-use Rattle.dfdl_parse.specs.Trials.{attempt, parts_of, refused, retry, trial_done, try_empty, try_nil, try_normal, two_rows}
+use Rattle.dfdl_parse.specs.Trials.{attempt, parts_here, parts_of, refused, retry, trial_done, try_empty, try_nil, try_normal, two_rows}
 use Rattle.dfdl_parse.specs.Ahead.{finish}
 use Rattle.dfdl_parse.proofs.Windows.{agrees_from, end_from}
 use Rattle.dfdl_parse.proofs.Beyond.{beyond-missed, beyond-waits}
@@ -62,7 +63,7 @@ use Rattle.dfdl_parse.specs.declared.frame.SlotPlace.{SlotPlace}
 use Rattle.dfdl_parse.specs.Slots.{look_behind, look_in, separation_at, slots_from, told_move}
 use Rattle.dfdl_parse.specs.SlotsAhead.{asked_behind, asked_in, course_of, occur_in, sequence_of, turn_of}
 use Rattle.dfdl_parse.proofs.SlotAsks.{empty-from, peek-lost, separator-from}
-use Rattle.dfdl_parse.proofs.SlotMoves.{closing-passes, done-passes, ended-passes, failed-passes, separated-passes, settled-passes}
+use Rattle.dfdl_parse.proofs.SlotMoves.{beside-passes, closing-passes, count-passes, done-passes, ended-passes, failed-passes, separated-passes, settled-passes}
 use Rattle.dfdl_parse.proofs.Finishes.{Anchored, Fits, finish-spend, from_here}
 use Rattle.dfdl_parse.proofs.PointSteps.{branch-on, failed-branch-on, failed-occurrence-on, occurrence-done-on, occurrence-on}
 use Rattle.dfdl_parse.proofs.SeekSteps.{is_lost as text_lost, seek-lost, seek-room}
@@ -71,7 +72,7 @@ use Rattle.dfdl_parse.proofs.TestSteps.{test-from, unknown}
 use Rattle.dfdl_parse.specs.Testing.{landed_test, read_test, verdict_in}
 use Rattle.dfdl_parse.specs.Stating.{make_statement, with_behind}
 use Rattle.dfdl_terms.specs.declared.statement.Statement.{Statement as AnyStatement}
-use Rattle.dfdl_terms.specs.declared.statement.Statement.TheVariants.{Pattern, Expression, Setting, Calculation, Question}
+use Rattle.dfdl_terms.specs.declared.statement.Statement.TheVariants.{Pattern, Expression, Setting, Calculation, Question, Opening}
 use Rattle.dfdl_paths.specs.declared.place.Start.TheVariants.{At}
 use Rattle.dfdl_grammar.specs.Statements.{statement_of}
 use Rattle.dfdl_terms.specs.declared.statement.PatternTest.{PatternTest}
@@ -236,6 +237,7 @@ module _ (table : Table) (held : Held) (s : State) where
   statement-waits limits id number (Some (Setting setting)) k is at waits = absurd (cc)
   statement-waits limits id number (Some (Calculation calculation)) k is at waits = absurd (cc)
   statement-waits limits id number (Some (Question question)) k is at waits = absurd (cc)
+  statement-waits limits id number (Some (Opening opening)) k is at waits = absurd (cc)
 
   -- the values that are nil, if a leaf has to have one of them
   abbrev nil : Option (List Value)
@@ -344,10 +346,10 @@ module _ (table : Table) (held : Held) (s : State) where
   begin-on to k false true waits = absurd (cc)
   begin-on to k false false waits = absurd (cc)
 
-  leave-box-on : (outer : Outside) (k : List Frame) (over : Bool)
-      → (cond over (pass nothing held (Leave Done) k (back_outside outer s)) (pass nothing held (PassRest s.at outer) k s)).waits ≡ true → ⊥
-  leave-box-on outer k true waits = absurd (cc)
-  leave-box-on outer k false waits = absurd (cc)
+  leave-box-on : (outer : Outside) (from : ℕ) (k : List Frame) (over : Bool)
+      → (cond over (pass nothing held (Leave Done) k (back_outside outer (filled_from from s))) (pass nothing held (PassRest s.at outer) k (filled_from from s))).waits ≡ true → ⊥
+  leave-box-on outer from k true waits = absurd (cc)
+  leave-box-on outer from k false waits = absurd (cc)
 
   -- what is held from the first byte on that is needed, as far as it has come
   kept_from : (low : ℕ) → held.base ≤ low → (count anchor : ℕ) → count ≡ length (from_byte held (min low (end_of held))).bytes → anchor ≡ low
@@ -447,15 +449,15 @@ module _ (table : Table) (held : Held) (s : State) where
 
   module _ (cost : Tally) (most id : ℕ) (parts : Parts) (k : List Frame) (t : State) where
     normal-on : (try_normal cost most held id parts k t).waits ≡ true → ⊥
-    normal-on waits = attempt-on cost most id parts Nothing (Trial id next.Nothing ∷ k) t (nat_lt (length t.nodes) most) waits
+    normal-on waits = attempt-on cost most id parts Nothing (Trial id parts.occurrence next.Nothing ∷ k) t (nat_lt (length t.nodes) most) waits
 
     empty-on : (empty : Option ℕ) → (try_empty cost most held id parts empty k t).waits ≡ true → ⊥
     empty-on None waits = normal-on waits
-    empty-on (Some prim) waits = attempt-on cost most id parts (Empty prim) (Trial id next.Normal ∷ k) t (nat_lt (length t.nodes) most) waits
+    empty-on (Some prim) waits = attempt-on cost most id parts (Empty prim) (Trial id parts.occurrence next.Normal ∷ k) t (nat_lt (length t.nodes) most) waits
 
     nil-on : (nil : Option ℕ) → (try_nil cost most held id parts nil k t).waits ≡ true → ⊥
     nil-on None waits = empty-on parts.tried.empty waits
-    nil-on (Some prim) waits = attempt-on cost most id parts (Nil prim) (Trial id next.Empty ∷ k) t (nat_lt (length t.nodes) most) waits
+    nil-on (Some prim) waits = attempt-on cost most id parts (Nil prim) (Trial id parts.occurrence next.Empty ∷ k) t (nat_lt (length t.nodes) most) waits
 
   element-on : (most id : ℕ) (parts : Parts) (k : List Frame) (several : Bool)
       → (cond several (try_nil two_rows most held id parts parts.tried.nil k (marked s)) (attempt two_rows most held id parts Nothing k s)).waits ≡ true → ⊥
@@ -513,8 +515,8 @@ module _ (table : Table) (held : Held) (s : State) where
   enter-waits limits id None k at waits = absurd (cc)
   enter-waits limits id (Some (Leaf prim)) k at waits = leaf-waits limits id prim (slice_get table.primitives (read_by table.primitives s.instead prim)) k refl at waits
   enter-waits limits id (Some (Elem name simple tried statements body)) k at waits =
-      absurd (element-on limits.nodes id (record { complex = has_elements simple; tried = tried; body = body }) (with_behind statements (At (length s.nodes)) k)
-      tried.are_several waits)
+      absurd (element-on limits.nodes id (parts_here s.instead (has_elements simple) tried body) (with_behind statements (At (length s.nodes)) k)
+      (parts_here s.instead (has_elements simple) tried body).tried.are_several waits)
   enter-waits limits id (Some (Skip bits)) k at waits =
       absurd (begin-on (s.at + bits) k (nat_le (s.at + bits) s.at) (nat_le (s.at + bits) s.stop) waits)
   enter-waits limits id (Some (Align bits)) k at waits =
@@ -547,6 +549,8 @@ module _ (table : Table) (held : Held) (s : State) where
   enter-waits limits id (Some (Statement number)) k at waits = statement-waits limits id number (slice_get table.statements number) k refl at waits
   enter-waits limits id (Some (Concluded statements body)) k at waits = absurd (cc)
   enter-waits limits id (Some (Hidden body)) k at waits = absurd (cc)
+  enter-waits limits id (Some (Spanned body)) k at waits = absurd (cc)
+  enter-waits limits id (Some (Instance statement body)) k at waits = absurd (cc)
   enter-waits limits id (Some (Separated policy position initiated slots)) k at waits =
       absurd (not-waiting _ (separated-passes held initiated k id policy position slots s).waits waits)
 
@@ -559,32 +563,39 @@ module _ (table : Table) (held : Held) (s : State) where
   leave-on limits (Rest id next) (Failed cause bit) k waits = absurd (cc)
   leave-on limits (Element outer complex) Done k waits = absurd (cc)
   leave-on limits (Element outer complex) (Failed cause bit) k waits = absurd (cc)
-  leave-on limits (Box outer) Done k waits = leave-box-on outer k (nat_le s.stop s.at) waits
-  leave-on limits (Box outer) (Failed cause bit) k waits = absurd (cc)
+  leave-on limits (Box outer from) Done k waits = leave-box-on outer from k (nat_le s.stop s.at) waits
+  leave-on limits (Box outer from) (Failed cause bit) k waits = absurd (cc)
+  leave-on limits (Spanning from) Done k waits = absurd (cc)
+  leave-on limits (Spanning from) (Failed cause bit) k waits = absurd (cc)
   leave-on limits (ScopeFrame count) Done k waits = absurd (cc)
   leave-on limits (ScopeFrame count) (Failed cause bit) k waits = absurd (cc)
-  leave-on limits (Trial id next) Done k waits = done-on (parts_of (slice_get table.rows id)) next k waits
-  leave-on limits (Trial id next) (Failed cause bit) k waits = retry-on limits.nodes id (parts_of (slice_get table.rows id)) next (Failed cause bit) k waits
+  leave-on limits (Trial id occurrence next) Done k waits = done-on (parts_of occurrence (slice_get table.rows id)) next k waits
+  leave-on limits (Trial id occurrence next) (Failed cause bit) k waits = retry-on limits.nodes id (parts_of occurrence (slice_get table.rows id)) next (Failed cause bit) k waits
   leave-on limits (Branch id next) Done k waits = absurd (cc)
   leave-on limits (Branch id next) (Failed cause bit) k waits =
       failed-branch-on held k id next (slice_get (children_of (slice_get table.rows id)) next) (Failed cause bit) s waits
-  leave-on limits (Occurrence body initiated left) Done k waits = occurrence-done-on held k body initiated left s waits
-  leave-on limits (Occurrence body initiated left) (Failed cause bit) k waits = failed-occurrence-on held k (Failed cause bit) s waits
+  leave-on limits (Occurrence body initiated left) Done k waits = occurrence-done-on held k body initiated left (as_normal s) waits
+  leave-on limits (Occurrence body initiated left) (Failed cause bit) k waits = failed-occurrence-on held k (Failed cause bit) (as_normal s) waits
   leave-on limits (Times body left) Done k waits = absurd (cc)
   leave-on limits (Times body left) (Failed cause bit) k waits = absurd (cc)
   leave-on limits (Before slot) Done k waits = not-waiting _ (done-passes held false k slot (slots_from table slot) s).waits waits
   leave-on limits (Before slot) (Failed cause bit) k waits =
       not-waiting _ (failed-passes held (separation_at table slot).initiated k slot (slots_from table slot) (Failed cause bit) s).waits waits
   leave-on limits (Content slot bit empty) Done k waits =
-      not-waiting _ (ended-passes held (separation_at table slot).initiated k slot bit empty (slots_from table slot) (nat_lt bit s.at) None Done s).waits waits
+      not-waiting _ (ended-passes held (separation_at table slot).initiated k slot bit empty (slots_from table slot) (nat_lt bit s.at) None Done (as_normal s)).waits waits
   leave-on limits (Content slot bit empty) (Failed cause at) k waits =
-      not-waiting _ (ended-passes held (separation_at table slot).initiated k slot bit empty (slots_from table slot) false (Some cause) (Failed cause at) s).waits waits
+      not-waiting _ (ended-passes held (separation_at table slot).initiated k slot bit empty (slots_from table slot) false (Some cause) (Failed cause at) (as_normal s)).waits waits
   leave-on limits (Closing slot bit) Done k waits =
       not-waiting _ (closing-passes held (separation_at table slot).initiated k slot bit (slots_from table slot) true Done s).waits waits
   leave-on limits (Closing slot bit) (Failed cause at) k waits =
       not-waiting _ (closing-passes held (separation_at table slot).initiated k slot bit (slots_from table slot) false (Failed cause at) s).waits waits
+  leave-on limits (Aside slot) Done k waits =
+      not-waiting _ (beside-passes held (separation_at table slot).initiated k slot (slots_from table slot) s).waits waits
+  leave-on limits (Aside slot) (Failed cause bit) k waits = absurd (cc)
   leave-on limits (Concluding statements start) Done k waits = absurd (cc)
   leave-on limits (Concluding statements start) (Failed cause bit) k waits = absurd (cc)
+  leave-on limits InstanceFrame Done k waits = absurd (cc)
+  leave-on limits InstanceFrame (Failed cause bit) k waits = absurd (cc)
   leave-on limits frame (Stopped cause quantity) k waits = absurd (cc)
 
   -- a question of a slot that waits
@@ -652,5 +663,7 @@ module _ (table : Table) (held : Held) (s : State) where
   step-waits limits (Seek what) k waits = seek-waits limits what k waits
   step-waits limits (LookIn slot) k waits = look_in-waits limits slot (slots_from table slot) k refl waits
   step-waits limits (LookBehind slot bit) k waits = look_behind-waits limits slot bit (slots_from table slot) k refl waits
+  step-waits limits (Count slot question) k waits =
+      absurd (not-waiting _ (count-passes held (separation_at table slot).initiated k table slot question (slots_from table slot) s).waits waits)
   step-waits limits (Leave told) [] waits = absurd (cc)
   step-waits limits (Leave told) (frame ∷ k) waits = absurd (leave-on limits frame told k waits)

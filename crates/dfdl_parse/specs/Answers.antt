@@ -5,7 +5,7 @@ use Rattle.dfdl_grammar.specs.declared.end.End.TheVariants.{Done, Failed, Stoppe
 use Rattle.dfdl_grammar.specs.declared.end.Halt.TheVariants.{Limit, Variable}
 use Rattle.dfdl_parse.specs.declared.frame.Frame.{Frame}
 use Rattle.dfdl_parse.specs.declared.frame.Focus.{Focus}
-use Rattle.dfdl_parse.specs.declared.frame.Focus.TheVariants.{Enter, Pass, PassRest, Sized, Seek, LookIn, LookBehind, Leave}
+use Rattle.dfdl_parse.specs.declared.frame.Focus.TheVariants.{Enter, Pass, PassRest, Sized, Seek, LookIn, LookBehind, Count, Leave}
 use Rattle.dfdl_parse.specs.declared.outcome.Outcome.{Outcome as Answer}
 use Rattle.dfdl_parse.specs.declared.outcome.Outcome.TheVariants.{Open, Done as AllDone, Failed as HasFailed, Limit as AtLimit, Variable as AtVariable}
 use Rattle.dfdl_parse.specs.Machines.{is_none}
@@ -26,4 +26,5 @@ answer_at (Sized prim size) k = Open
 answer_at (Seek what) k = Open
 answer_at (LookIn slot) k = Open
 answer_at (LookBehind slot bit) k = Open
+answer_at (Count slot question) k = Open
 answer_at (Leave end) k = if is_none k then answer_of end else Open

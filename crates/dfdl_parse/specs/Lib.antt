@@ -7,6 +7,7 @@ pub mod Points
 pub mod Testing
 pub mod Stating
 pub mod Asking
+pub mod Instances
 pub mod Slots
 pub mod SlotsAhead
 pub mod SlotLooks

@@ -6,7 +6,7 @@ use Rattle.dfdl_bits.specs.declared.window.Seen.TheVariants.{Byte, End as DataEn
 use Rattle.dfdl_report.specs.declared.cause.LimitCause.TheVariants.{Window}
 use Rattle.dfdl_report.specs.declared.cause.ParseCause.TheVariants.{DataEnds, LengthOutOfRange}
 use Rattle.dfdl_terms.specs.declared.row.Row.{Row}
-use Rattle.dfdl_terms.specs.declared.row.Row.TheVariants.{Leaf, Elem, Group, Skip, Align, Initiator, Terminator, Separator, Scope, Boxed, PrefixedLeaf, PrefixedBox, MeasuredLeaf, MeasuredBox, Repeat, Counted, Optional, Choice, Dispatch, Statement, Concluded, Hidden, Separated}
+use Rattle.dfdl_terms.specs.declared.row.Row.TheVariants.{Leaf, Elem, Group, Skip, Align, Initiator, Terminator, Separator, Scope, Boxed, PrefixedLeaf, PrefixedBox, MeasuredLeaf, MeasuredBox, Repeat, Counted, Optional, Choice, Dispatch, Statement, Concluded, Hidden, Spanned, Instance, Separated}
 use Rattle.dfdl_paths.specs.declared.place.Start.TheVariants.{At, Inside}
 use Rattle.dfdl_terms.specs.Rows.{Table}
 use Rattle.dfdl_looks.specs.Tallies.{needs_from, nothing, one_row, saw_byte, saw_end, saw_none}
@@ -20,19 +20,24 @@ use Rattle.dfdl_grammar.specs.Marks.{closed, pointed}
 use Rattle.dfdl_grammar.specs.Framing.{aligned}
 use Rattle.dfdl_grammar.specs.Delimiters.{closes_to, opens}
 use Rattle.dfdl_grammar.specs.Elements.{has_elements, left}
+use Rattle.dfdl_grammar.specs.Boxes.{filled_from}
+use Rattle.dfdl_grammar.specs.Spans.{with_span}
 use Rattle.dfdl_parse.specs.declared.frame.Frame.{Frame}
-use Rattle.dfdl_parse.specs.declared.frame.Frame.TheVariants.{Rest, Element, Box, Scope as ScopeFrame, Trial, Branch, Occurrence, Times, Before, Content, Closing, Concluding}
+use Rattle.dfdl_parse.specs.declared.frame.Frame.TheVariants.{Rest, Element, Box, Spanning, Scope as ScopeFrame, Trial, Branch, Occurrence, Times, Before, Content, Closing, Aside, Concluding, Instance as InstanceFrame}
+use Rattle.dfdl_grammar.specs.Instances.{instance_closed}
+use Rattle.dfdl_grammar.specs.Occurrences.{as_normal}
 use Rattle.dfdl_parse.specs.declared.frame.Outside.{Outside}
 use Rattle.dfdl_parse.specs.declared.frame.Focus.{Focus}
-use Rattle.dfdl_parse.specs.declared.frame.Focus.TheVariants.{Enter, Pass, PassRest, Sized, Seek, LookIn, LookBehind, Leave}
+use Rattle.dfdl_parse.specs.declared.frame.Focus.TheVariants.{Enter, Pass, PassRest, Sized, Seek, LookIn, LookBehind, Count, Leave}
 use Rattle.dfdl_parse.specs.declared.frame.Behind.TheVariants as behind
 use Rattle.dfdl_parse.specs.declared.frame.Sought.TheVariants as sought
 use Rattle.dfdl_parse.specs.Moves.{Move, pass, read_leaf}
-use Rattle.dfdl_parse.specs.Trials.{enter_element, parts_of, retry, trial_done}
+use Rattle.dfdl_parse.specs.Trials.{enter_element, parts_here, parts_of, retry, trial_done}
 use Rattle.dfdl_parse.specs.Points.{branch_failed, occurrence_done, occurrence_failed, try_branch, try_occurrence}
 use Rattle.dfdl_parse.specs.Asking.{begins, counted_begins, dispatch_begins, measured_begins, times_begin}
 use Rattle.dfdl_parse.specs.Stating.{conclude, make_statement, reconsider, with_behind}
-use Rattle.dfdl_parse.specs.Slots.{before_done, before_failed, cause_of, closing_ended, content_ended, enter_separated, look_behind, look_in, separation_at, slots_from}
+use Rattle.dfdl_parse.specs.Slots.{before_done, before_failed, cause_of, closing_ended, content_ended, count_slots, enter_separated, goes_beside, look_behind, look_in, separation_at, slots_from}
+use Rattle.dfdl_parse.specs.Instances.{instanced_begins}
 use Rattle.dfdl_parse.specs.Boxing.{back_outside, hides}
 use Rattle.dfdl_parse.specs.Searches.{enter_delimiter, search}
 use Rattle.dfdl_parse.specs.Prefixed.{behind_units, box_begins, read_prefix, read_sized}
@@ -62,6 +67,8 @@ children_of (Some (Dispatch question keys)) = []
 children_of (Some (Statement number)) = []
 children_of (Some (Concluded statements body)) = []
 children_of (Some (Hidden body)) = []
+children_of (Some (Spanned body)) = []
+children_of (Some (Instance statement body)) = []
 children_of (Some (Separated policy position initiated slots)) = []
 
 -- fill up to a bit begins, where there is any; it can't pass the end of the box
@@ -101,12 +108,12 @@ fill limits held to k s =
 abbrev pub enter_box : Held → ℕ → ℕ → List Frame → State → Move
 enter_box held bits body k s = record { tally = one_row; machine = box_begins bits body k s; held = held; waits = false }
 
--- The content of the innermost box is done, and the box around ends at this bit: so does the inner one here, or its rest begins.
-abbrev pub leave_box : Held → Outside → List Frame → State → Move
-leave_box held outer k s =
+-- The content of the innermost box is done, which began at this bit: so does the box end here, or its rest begins.
+abbrev pub leave_box : Held → Outside → ℕ → List Frame → State → Move
+leave_box held outer from k s =
     if nat_le s.stop s.at
-    then pass nothing held (Leave Done) k (back_outside outer s)
-    else pass nothing held (PassRest s.at outer) k s
+    then pass nothing held (Leave Done) k (back_outside outer (filled_from from s))
+    else pass nothing held (PassRest s.at outer) k (filled_from from s)
 
 -- a byte of the rest of a box was seen: it is the last one, or the next one follows
 abbrev pub past_one : Held → ℕ → ℕ → Outside → List Frame → State → Move
@@ -147,7 +154,7 @@ enter limits table held id (Some (Leaf prim)) k s =
     read_leaf one_row limits (Enter id) held table.delimiters (nil_values table.primitives s.instead)
     (slice_get table.primitives (read_by table.primitives s.instead prim)) k s
 enter limits table held id (Some (Elem name simple tried statements body)) k s =
-    enter_element limits.nodes held id (record { complex = has_elements simple; tried = tried; body = body }) (with_behind statements (At (length s.nodes)) k) s
+    enter_element limits.nodes held id (parts_here s.instead (has_elements simple) tried body) (with_behind statements (At (length s.nodes)) k) s
 enter limits table held id (Some (Group children)) k s = enter_group held id children k s
 enter limits table held id (Some (Skip bits)) k s = enter_fill held (s.at + bits) k s
 enter limits table held id (Some (Align bits)) k s = enter_fill held (aligned bits s.at) k s
@@ -174,6 +181,8 @@ enter limits table held id (Some (Statement number)) k s =
 enter limits table held id (Some (Concluded statements body)) k s =
     pass one_row held (Enter body) (with_behind statements (Inside s.inside) k) s
 enter limits table held id (Some (Hidden body)) k s = pass one_row held (Enter body) k s
+enter limits table held id (Some (Spanned body)) k s = pass one_row held (Enter body) (Spanning s.at ∷ k) s
+enter limits table held id (Some (Instance statement body)) k s = begins one_row held (instanced_begins table statement body k s)
 enter limits table held id (Some (Separated policy position initiated slots)) k s = enter_separated held id policy position initiated slots k s
 
 -- a group goes on with its next child, or ends
@@ -185,35 +194,41 @@ go_on held id next (Some child) k s = pass nothing held (Enter child) (Rest id (
 abbrev pub leave_done : Limits → Table → Held → Frame → List Frame → State → Move
 leave_done limits table held (Rest id next) k s = go_on held id next (slice_get (children_of (slice_get table.rows id)) next) k s
 leave_done limits table held (Element outer complex) k s = pass nothing held (Leave Done) k (left outer complex s)
-leave_done limits table held (Box outer) k s = leave_box held outer k s
+leave_done limits table held (Box outer from) k s = leave_box held outer from k s
+leave_done limits table held (Spanning from) k s = pass nothing held (Leave Done) k (with_span (s.at - from) (s.at - from) s)
 leave_done limits table held (ScopeFrame count) k s = pass nothing held (Leave Done) k (closes_to count s)
-leave_done limits table held (Trial id next) k s = trial_done held (parts_of (slice_get table.rows id)) next k s
+leave_done limits table held (Trial id occurrence next) k s = trial_done held (parts_of occurrence (slice_get table.rows id)) next k s
 leave_done limits table held (Branch id next) k s = pass nothing held (Leave Done) k (closed s)
-leave_done limits table held (Occurrence body initiated left) k s = occurrence_done held body initiated left k s
+leave_done limits table held (Occurrence body initiated left) k s = occurrence_done held body initiated left k (as_normal s)
 leave_done limits table held (Times body left) k s = begins nothing held (times_begin body left k s)
 leave_done limits table held (Before slot) k s = before_done held slot (slots_from table slot) k s
 leave_done limits table held (Content slot bit empty) k s =
-    content_ended held (separation_at table slot).initiated slot bit empty (slots_from table slot) (nat_lt bit s.at) None Done k s
+    content_ended held (separation_at table slot).initiated slot bit empty (slots_from table slot) (nat_lt bit s.at) None Done k (as_normal s)
 leave_done limits table held (Closing slot bit) k s = closing_ended held (separation_at table slot).initiated slot bit (slots_from table slot) true Done k s
+leave_done limits table held (Aside slot) k s = goes_beside held (separation_at table slot).initiated slot (slots_from table slot) k s
 leave_done limits table held (Concluding statements start) k s = conclude limits table held statements start k s
+leave_done limits table held InstanceFrame k s = pass nothing held (Leave Done) k (instance_closed s)
 
 -- a row that failed, at this end, before what stands on the stack
 abbrev pub leave_failed : ℕ → Table → Held → Frame → End → List Frame → State → Move
 leave_failed most table held (Rest id next) end k s = pass nothing held (Leave end) k s
 leave_failed most table held (Element outer complex) end k s = pass nothing held (Leave end) k s
-leave_failed most table held (Box outer) end k s = pass nothing held (Leave end) k (hides outer.hidden s)
+leave_failed most table held (Box outer from) end k s = pass nothing held (Leave end) k (hides outer.hidden s)
+leave_failed most table held (Spanning from) end k s = pass nothing held (Leave end) k s
 leave_failed most table held (ScopeFrame count) end k s = pass nothing held (Leave end) k (closes_to count s)
-leave_failed most table held (Trial id next) end k s = retry most held id (parts_of (slice_get table.rows id)) next end k s
+leave_failed most table held (Trial id occurrence next) end k s = retry most held id (parts_of occurrence (slice_get table.rows id)) next end k s
 leave_failed most table held (Branch id next) end k s =
     branch_failed held id next (slice_get (children_of (slice_get table.rows id)) next) end k s
-leave_failed most table held (Occurrence body initiated left) end k s = occurrence_failed held end k s
+leave_failed most table held (Occurrence body initiated left) end k s = occurrence_failed held end k (as_normal s)
 leave_failed most table held (Times body left) end k s = pass nothing held (Leave end) k s
 leave_failed most table held (Before slot) end k s = before_failed held (separation_at table slot).initiated slot (slots_from table slot) end k s
 leave_failed most table held (Content slot bit empty) end k s =
-    content_ended held (separation_at table slot).initiated slot bit empty (slots_from table slot) false (cause_of end) end k s
+    content_ended held (separation_at table slot).initiated slot bit empty (slots_from table slot) false (cause_of end) end k (as_normal s)
 leave_failed most table held (Closing slot bit) end k s =
     closing_ended held (separation_at table slot).initiated slot bit (slots_from table slot) false end k s
+leave_failed most table held (Aside slot) end k s = pass nothing held (Leave end) k s
 leave_failed most table held (Concluding statements start) end k s = reconsider table held statements start end k s
+leave_failed most table held InstanceFrame end k s = pass nothing held (Leave end) k (instance_closed s)
 
 -- what stands on the stack takes the end of the row before it
 abbrev pub leave : Limits → Table → Held → Frame → End → List Frame → State → Move
@@ -233,6 +248,8 @@ step limits table held (LookIn slot) k s =
     look_in limits table.delimiters held (separation_at table slot).initiated slot (slots_from table slot) k s
 step limits table held (LookBehind slot bit) k s =
     look_behind limits table.delimiters held (separation_at table slot).initiated slot bit (slots_from table slot) k s
+step limits table held (Count slot question) k s =
+    count_slots table held (separation_at table slot).initiated slot question (slots_from table slot) k s
 step limits table held (Leave end) [] s = pass nothing held (Leave end) [] s
 step limits table held (Leave end) (frame ∷ k) s = leave limits table held frame end k s
 
@@ -245,6 +262,7 @@ HasEnded (Sized prim size) k = ⊥
 HasEnded (Seek what) k = ⊥
 HasEnded (LookIn slot) k = ⊥
 HasEnded (LookBehind slot bit) k = ⊥
+HasEnded (Count slot question) k = ⊥
 HasEnded (Leave end) k = k ≡ []
 
 -- whether there are no frames

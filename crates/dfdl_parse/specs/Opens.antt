@@ -14,9 +14,9 @@ use Rattle.dfdl_grammar.specs.Framing.{aligned}
 use Rattle.dfdl_grammar.specs.Slots.{has_mark, is_tried, opens_before}
 use Rattle.dfdl_grammar.specs.States.{State, anchor_at}
 use Rattle.dfdl_parse.specs.declared.frame.Frame.{Frame}
-use Rattle.dfdl_parse.specs.declared.frame.Frame.TheVariants.{Rest, Element, Box, Scope as ScopeFrame, Trial, Branch, Occurrence, Times, Before, Content, Closing, Concluding}
+use Rattle.dfdl_parse.specs.declared.frame.Frame.TheVariants.{Rest, Element, Box, Spanning, Scope as ScopeFrame, Trial, Branch, Occurrence, Times, Before, Content, Closing, Aside, Concluding, Instance as InstanceFrame}
 use Rattle.dfdl_parse.specs.declared.frame.Focus.{Focus}
-use Rattle.dfdl_parse.specs.declared.frame.Focus.TheVariants.{Enter, Pass, PassRest, Sized, Seek, LookIn, LookBehind, Leave}
+use Rattle.dfdl_parse.specs.declared.frame.Focus.TheVariants.{Enter, Pass, PassRest, Sized, Seek, LookIn, LookBehind, Count, Leave}
 
 -- which of the marks are points while a slot is parsed: its own and those around it
 abbrev pub slot_points : Here → List Bool → List Bool
@@ -31,16 +31,19 @@ abbrev pub points_of : List Frame → List Bool
 points_of [] = []
 points_of (Rest id next ∷ k) = points_of k
 points_of (Element outer complex ∷ k) = points_of k
-points_of (Box outer ∷ k) = points_of k
+points_of (Box outer from ∷ k) = points_of k
+points_of (Spanning from ∷ k) = points_of k
 points_of (ScopeFrame count ∷ k) = points_of k
-points_of (Trial id next ∷ k) = false ∷ points_of k
+points_of (Trial id occurrence next ∷ k) = false ∷ points_of k
 points_of (Branch id next ∷ k) = true ∷ points_of k
 points_of (Occurrence body initiated left ∷ k) = true ∷ points_of k
 points_of (Times body left ∷ k) = points_of k
 points_of (Before slot ∷ k) = before_points (here_of slot.progress slot.rule) (points_of k)
 points_of (Content slot bit empty ∷ k) = slot_points (here_of slot.progress slot.rule) (points_of k)
 points_of (Closing slot bit ∷ k) = slot_points (here_of slot.progress slot.rule) (points_of k)
+points_of (Aside slot ∷ k) = points_of k
 points_of (Concluding statements start ∷ k) = points_of k
+points_of (InstanceFrame ∷ k) = points_of k
 
 -- Of these marks only points are resolved, none is behind this bit or behind one inside of it, and the bytes from each on that isn't
 -- resolved are needed, which are none before this one.
@@ -102,9 +105,10 @@ abbrev pub Lie : ℕ → List Frame → List Mark → Type 0
 Lie at [] marks = Unit {0}
 Lie at (Rest id next ∷ k) marks = Lie at k marks
 Lie at (Element outer complex ∷ k) marks = Lie at k marks
-Lie at (Box outer ∷ k) marks = Lie at k marks
+Lie at (Box outer from ∷ k) marks = Lie at k marks
+Lie at (Spanning from ∷ k) marks = Lie at k marks
 Lie at (ScopeFrame count ∷ k) marks = Lie at k marks
-Lie at (Trial id next ∷ k) marks = Lie (first_at marks at) k (outer_marks marks)
+Lie at (Trial id occurrence next ∷ k) marks = Lie (first_at marks at) k (outer_marks marks)
 Lie at (Branch id next ∷ k) marks = Lie (first_at marks at) k (outer_marks marks)
 Lie at (Occurrence body initiated left ∷ k) marks = Lie (first_at marks at) k (outer_marks marks)
 Lie at (Times body left ∷ k) marks = Lie at k marks
@@ -115,7 +119,9 @@ Lie at (Content slot bit empty ∷ k) marks =
     IsContent slot bit empty at marks × Lie (slot_at (here_of slot.progress slot.rule) marks at) k (outside_slot (here_of slot.progress slot.rule) marks)
 Lie at (Closing slot bit ∷ k) marks =
     IsClosing slot × Lie (slot_at (here_of slot.progress slot.rule) marks at) k (outside_slot (here_of slot.progress slot.rule) marks)
+Lie at (Aside slot ∷ k) marks = Lie at k marks
 Lie at (Concluding statements start ∷ k) marks = Lie at k marks
+Lie at (InstanceFrame ∷ k) marks = Lie at k marks
 
 -- the open marks are those of what is tried on the stack
 abbrev pub AreOpen : ℕ → ℕ → List Frame → List Mark → Type 0
@@ -144,6 +150,7 @@ NeedsFrom base (LookBehind slot bit) k s =
     × (IsAsking slot bit s.at s.marks
     × (AreSuch (slot_points (here_of slot.progress slot.rule) (points_of k)) base s.at s.marks
     × Lie (slot_at (here_of slot.progress slot.rule) s.marks s.at) k (outside_slot (here_of slot.progress slot.rule) s.marks)))
+NeedsFrom base (Count slot question) k s = (base ≤ s.at / 8) × AreOpen base s.at k s.marks
 NeedsFrom base (Leave end) k s = NeedsBehind base end k s
 
 -- the innermost mark is at this bit or before it
@@ -155,16 +162,19 @@ IsBefore (mark ∷ outer) at = mark.at ≤ at
 abbrev pub ComesBack : Frame → ℕ → Type 0
 ComesBack (Rest id next) at = Unit {0}
 ComesBack (Element outer complex) at = Unit {0}
-ComesBack (Box outer) at = Unit {0}
+ComesBack (Box outer from) at = Unit {0}
+ComesBack (Spanning from) at = Unit {0}
 ComesBack (ScopeFrame count) at = Unit {0}
-ComesBack (Trial id next) at = Unit {0}
+ComesBack (Trial id occurrence next) at = Unit {0}
 ComesBack (Branch id next) at = Unit {0}
 ComesBack (Occurrence body initiated left) at = Unit {0}
 ComesBack (Times body left) at = Unit {0}
 ComesBack (Before slot) at = Unit {0}
 ComesBack (Content slot bit empty) at = bit ≤ at
 ComesBack (Closing slot bit) at = Unit {0}
+ComesBack (Aside slot) at = Unit {0}
 ComesBack (Concluding statements start) at = Unit {0}
+ComesBack InstanceFrame at = Unit {0}
 
 -- the same of what stands first on a stack
 abbrev pub ComesBackIn : List Frame → ℕ → Type 0
@@ -190,4 +200,5 @@ Holds base (Sized prim size) k s = IsHeld base s.at s
 Holds base (Seek what) k s = IsHeld base (aligned 8 s.at) s
 Holds base (LookIn slot) k s = IsHeld base s.at s
 Holds base (LookBehind slot bit) k s = IsHeld base s.at s × IsBefore s.marks s.at
+Holds base (Count slot question) k s = IsHeld base s.at s
 Holds base (Leave end) k s = GoesBack end k s

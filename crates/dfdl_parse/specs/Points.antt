@@ -7,7 +7,7 @@ use Rattle.dfdl_grammar.specs.declared.end.End.{End}
 use Rattle.dfdl_grammar.specs.declared.end.End.TheVariants.{Done, Failed}
 use Rattle.dfdl_grammar.specs.States.{State}
 use Rattle.dfdl_grammar.specs.Marks.{back, closed, is_settled, pointed, stays_at}
-use Rattle.dfdl_grammar.specs.Occurrences.{dropped}
+use Rattle.dfdl_grammar.specs.Occurrences.{as_tried, dropped}
 use Rattle.dfdl_parse.specs.declared.frame.Frame.{Frame}
 use Rattle.dfdl_parse.specs.declared.frame.Frame.TheVariants.{Branch, Occurrence}
 use Rattle.dfdl_parse.specs.declared.frame.Focus.TheVariants.{Enter, Leave}
@@ -29,7 +29,7 @@ abbrev pub try_occurrence : Tally → Held → ℕ → Bool → ℕ → List Fra
 try_occurrence cost held body initiated left k s =
     if nat_eq left 0
     then pass cost held (Leave Done) k s
-    else pass cost held (Enter body) (Occurrence body initiated (left - 1) ∷ k) (pointed initiated s)
+    else pass cost held (Enter body) (Occurrence body initiated (left - 1) ∷ k) (as_tried (pointed initiated s))
 
 -- an occurrence is done: it is dropped where it has passed over no bit, and else its point is closed, and the next one begins, if any are left
 abbrev pub occurrence_done : Held → ℕ → Bool → ℕ → List Frame → State → Move

@@ -49,7 +49,7 @@ sized_begins (Some primitive) prim size k s =
 abbrev pub box_begins : ℕ → ℕ → List Frame → State → Machine
 box_begins bits body k s =
     if nat_le (s.at + bits) s.stop
-    then record { focus = Enter body; stack = Box (outside s) ∷ k; state = boxed_at (s.at + bits) s }
+    then record { focus = Enter body; stack = Box (outside s) s.at ∷ k; state = boxed_at (s.at + bits) s }
     else at_end (Failed LengthOutOfRange s.at) k s
 
 -- what stands behind a prefix begins, by the number of units that the prefix tells
@@ -66,9 +66,9 @@ units_begin end next (Some units) k s = next units k (record s { at = end })
 abbrev pub landed_prefix : Limits → ℕ → ℕ → ℕ → (ℕ → List Frame → State → Machine) → Reached Find → List Frame → State → Machine
 landed_prefix limits id own first next Missing k s = record { focus = Enter id; stack = k; state = s }
 landed_prefix limits id own first next (Told (Fails cause)) k s = at_end (Failed cause (failing_bit cause s.at first)) k s
-landed_prefix limits id own first next (Told (Finds content end)) k s = units_begin end next (units_told own content) k s
-landed_prefix limits id own first next (Told (FindsOctets bytes end)) k s = at_end (Failed LengthOutOfRange s.at) k s
-landed_prefix limits id own first next (Told (FindsText bytes end)) k s = at_end (Failed LengthOutOfRange s.at) k s
+landed_prefix limits id own first next (Told (Finds content span)) k s = units_begin span.end next (units_told own content) k s
+landed_prefix limits id own first next (Told (FindsOctets bytes span)) k s = at_end (Failed LengthOutOfRange s.at) k s
+landed_prefix limits id own first next (Told (FindsText bytes span)) k s = at_end (Failed LengthOutOfRange s.at) k s
 landed_prefix limits id own first next TooFar k s = at_end (Stopped (Limit Window) limits.window) k s
 
 -- the step of a prefix whose reading this is, with these bytes held behind it

@@ -6,7 +6,7 @@ use Rattle.dfdl_terms.specs.Arrays.{item_marks}
 use Rattle.dfdl_terms.specs.Rows.{Table}
 use Rattle.dfdl_grammar.specs.Delimiters.{opened}
 use Rattle.dfdl_parse.specs.declared.frame.Focus.{Focus}
-use Rattle.dfdl_parse.specs.declared.frame.Focus.TheVariants.{Enter, Pass, PassRest, Sized, Seek, LookIn, LookBehind, Leave}
+use Rattle.dfdl_parse.specs.declared.frame.Focus.TheVariants.{Enter, Pass, PassRest, Sized, Seek, LookIn, LookBehind, Count, Leave}
 use Rattle.dfdl_parse.specs.declared.parser.Parser.{Parser}
 use Rattle.dfdl_parse.specs.Moves.{Machine}
 use Rattle.dfdl_parse.specs.Searches.{put_behind}
@@ -25,6 +25,7 @@ SeeksWithin count (Sized prim size) = Unit {0}
 SeeksWithin count (Seek sought) = All (λ n. n < count) (put_behind sought)
 SeeksWithin count (LookIn slot) = Unit {0}
 SeeksWithin count (LookBehind slot bit) = Unit {0}
+SeeksWithin count (Count slot question) = Unit {0}
 SeeksWithin count (Leave end) = Unit {0}
 
 -- the lists that are open, and those that are sought, are some of so many

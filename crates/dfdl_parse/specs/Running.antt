@@ -5,7 +5,7 @@ use Rattle.dfdl_terms.specs.Rows.{Table}
 use Rattle.dfdl_grammar.specs.States.{Input, State}
 use Rattle.dfdl_grammar.specs.Outcomes.{Outcome}
 use Rattle.dfdl_parse.specs.declared.frame.Focus.{Focus}
-use Rattle.dfdl_parse.specs.declared.frame.Focus.TheVariants.{Enter, Pass, PassRest, Sized, Seek, LookIn, LookBehind, Leave}
+use Rattle.dfdl_parse.specs.declared.frame.Focus.TheVariants.{Enter, Pass, PassRest, Sized, Seek, LookIn, LookBehind, Count, Leave}
 use Rattle.dfdl_parse.specs.declared.parser.Parser.{Parser}
 use Rattle.dfdl_parse.specs.Shown.{KeepsTo, shown}
 use Rattle.dfdl_parse.specs.Runs.{Runs}
@@ -26,6 +26,7 @@ Reaches last held (Sized prim size) s = s.at ≤ 8 * last
 Reaches last held (Seek what) s = s.at ≤ 8 * last
 Reaches last held (LookIn slot) s = s.at ≤ 8 * last
 Reaches last held (LookBehind slot bit) s = s.at ≤ 8 * last
+Reaches last held (Count slot question) s = s.at ≤ 8 * last
 Reaches last held (Leave end) s = (held.base ≤ last) × (s.at ≤ 8 * last)
 
 -- The machine has gone on in so many looks, and stands in the work on any data as before.

@@ -1,9 +1,10 @@
 -- The steps of a sequence with separators whose occurrences are tried.
-use Rattle.std.specs.Prelude.{ℕ, ◌+◌, ◌-◌, nat_eq, nat_lt, Bool, true, false, ◌&&◌, List, [], ◌∷◌, drop, length, Option, Some, None, slice_get, if◌then◌else◌}
+use Rattle.std.specs.Prelude.{ℕ, ◌+◌, ◌-◌, nat_eq, nat_lt, Bool, true, false, ◌&&◌, List, [], ◌∷◌, drop, length, Option, Some, None, Result, Ok, Err, slice_get, if◌then◌else◌}
 use Rattle.dfdl_bits.specs.Window.{Held, from_byte, seen_at}
 use Rattle.dfdl_report.specs.declared.cause.LimitCause.TheVariants.{Window}
 use Rattle.dfdl_report.specs.declared.cause.ParseCause.{ParseCause}
-use Rattle.dfdl_report.specs.declared.cause.ParseCause.TheVariants.{EmptyTrailingSlot, SeparatorMissing}
+use Rattle.dfdl_report.specs.declared.cause.ParseCause.TheVariants.{EmptyTrailingSlot, ExpressionFault, NegativeCount, SeparatorMissing}
+use Rattle.dfdl_paths.specs.declared.place.Start.TheVariants as start
 use Rattle.dfdl_separators.specs.declared.moves.SlotMove.{SlotMove}
 use Rattle.dfdl_separators.specs.declared.moves.SlotMove.TheVariants.{TakeSeparator, LookForSeparator, Parse, Keep, Drop, EndArray, EndGroup, Fail}
 use Rattle.dfdl_separators.specs.declared.moves.SlotSeen.TheVariants as seen
@@ -30,15 +31,18 @@ use Rattle.dfdl_grammar.specs.declared.limits.Limits.{Limits}
 use Rattle.dfdl_grammar.specs.States.{State, anchor}
 use Rattle.dfdl_grammar.specs.Marks.{is_settled, marked, pointed}
 use Rattle.dfdl_grammar.specs.Delimiters.{lists_of, markup}
+use Rattle.dfdl_grammar.specs.Questions.{question_at}
+use Rattle.dfdl_grammar.specs.Occurrences.{as_occurrence}
 use Rattle.dfdl_grammar.specs.Slots.{closed_slot, emptied, has_mark, is_blank, is_empty_at, is_tried, opens_before, separator_follows, taken_back}
 use Rattle.dfdl_parse.specs.declared.frame.Coming.{Coming}
-use Rattle.dfdl_parse.specs.declared.frame.Coming.TheVariants.{Past, Seeks, Parses, Lacks, Over}
+use Rattle.dfdl_parse.specs.declared.frame.Coming.TheVariants.{Past, Seeks, Parses, Counts, Aside, Lacks, Over}
 use Rattle.dfdl_parse.specs.declared.frame.Frame.{Frame}
-use Rattle.dfdl_parse.specs.declared.frame.Frame.TheVariants.{Before, Content, Closing}
+use Rattle.dfdl_parse.specs.declared.frame.Frame.TheVariants.{Before, Content, Closing, Aside as AsideFrame}
 use Rattle.dfdl_parse.specs.declared.frame.Focus.{Focus}
-use Rattle.dfdl_parse.specs.declared.frame.Focus.TheVariants.{Enter, Seek, LookIn, LookBehind, Leave}
+use Rattle.dfdl_parse.specs.declared.frame.Focus.TheVariants.{Enter, Seek, LookIn, LookBehind, Count, Leave}
 use Rattle.dfdl_parse.specs.declared.frame.SlotPlace.{SlotPlace}
 use Rattle.dfdl_parse.specs.declared.frame.Sought.TheVariants.{Separator}
+use Rattle.dfdl_parse.specs.Asking.{behind_question, count_told, given_by}
 use Rattle.dfdl_parse.specs.Moves.{Move, pass}
 
 -- what the row of such a sequence says of it
@@ -89,6 +93,8 @@ abbrev pub or_next : Coming → (Progress → Coming) → Coming
 or_next (Past progress) next = next progress
 or_next (Seeks slot here) next = Seeks slot here
 or_next (Parses slot body) next = Parses slot body
+or_next (Counts slot question) next = Counts slot question
+or_next (Aside slot body) next = Aside slot body
 or_next Lacks next = Lacks
 or_next Over next = Over
 
@@ -101,12 +107,20 @@ then_tried slot own progress =
 abbrev pub first_here : SlotPlace → Slot → Coming
 first_here slot own = or_next (first_of slot own) (then_tried slot own)
 
+-- the first slot of a row, of which a question may tell how many are required
+abbrev pub first_told : SlotPlace → Slot → Option ℕ → Coming
+first_told slot own None = first_here (record slot { optional = false; left = own.least }) own
+first_told slot own (Some question) = Counts slot question
+
+-- the same, or the row itself, if it has none
+abbrev pub first_row : SlotPlace → Slot → Coming
+first_row slot own = if own.is_slotless then Aside (record slot { place = slot.place + 1 }) own.body else first_told slot own own.question
+
 -- the first slot of some rows, of which the first has this place
 abbrev pub first_in : SlotPlace → List Slot → Coming
 first_in slot [] = Past slot.progress
 first_in slot (own ∷ slots) =
-    or_next (first_here (record slot { optional = false; left = own.least }) own)
-    (λ progress. first_in (record slot { place = slot.place + 1; progress = progress }) slots)
+    or_next (first_row slot own) (λ progress. first_in (record slot { place = slot.place + 1; progress = progress }) slots)
 
 -- the slot of a row from a place on, or the first one behind them
 abbrev pub coming_from : SlotPlace → Slot → List Slot → Coming
@@ -121,7 +135,8 @@ sequence_ends cost held move last k s = pass cost held (Leave Done) k s
 -- the content of a slot begins: it is looked whether it is empty, where its occurrence is tried
 abbrev pub content_begins : Tally → Held → SlotPlace → ℕ → List Frame → State → Move
 content_begins cost held slot body k s =
-    if is_tried slot.rule then pass cost held (LookIn slot) k s else pass cost held (Enter body) (Content slot s.at false ∷ k) s
+    if is_tried slot.rule then pass cost held (LookIn slot) k s
+    else pass cost held (Enter body) (Content slot s.at false ∷ k) (as_occurrence (is_tried slot.rule) s)
 
 -- what comes next in a sequence begins
 abbrev pub comes : Tally → Held → Bool → ℕ → Coming → List Frame → State → Move
@@ -129,6 +144,8 @@ comes cost held initiated last (Past progress) k s = sequence_ends cost held (en
 comes cost held initiated last (Seeks slot here) k s =
     pass (plus cost one_row) held (Seek Separator) (Before slot ∷ k) (if opens_before here then opened_at initiated here s else s)
 comes cost held initiated last (Parses slot body) k s = content_begins cost held slot body k s
+comes cost held initiated last (Counts slot question) k s = pass cost held (Count slot question) k s
+comes cost held initiated last (Aside slot body) k s = pass cost held (Enter body) (AsideFrame slot ∷ k) s
 comes cost held initiated last Lacks k s = pass cost held (Leave (Failed SeparatorMissing s.at)) k s
 comes cost held initiated last Over k s = pass cost held (Leave Done) k s
 
@@ -141,6 +158,24 @@ enter_separated held id policy position initiated slots k s =
 -- the sequence goes on behind a slot
 abbrev pub goes_on : Tally → Held → Bool → SlotPlace → Slot → List Slot → List Frame → State → Move
 goes_on cost held initiated slot own slots k s = comes cost held initiated slot.last (coming_from slot own slots) k s
+
+-- the sequence goes on behind a row that has no slot
+abbrev pub goes_beside : Held → Bool → SlotPlace → List Slot → List Frame → State → Move
+goes_beside held initiated slot slots k s = comes nothing held initiated slot.last (first_in slot slots) k s
+
+-- so many slots of a row are required, if that is told
+abbrev pub counted_slots : Held → Bool → SlotPlace → Slot → List Slot → Result (Option ℕ) ℕ → List Frame → State → Move
+counted_slots held initiated slot own slots (Ok (Some count)) k s =
+    goes_on one_row held initiated (record slot { optional = false; left = count }) own slots k s
+counted_slots held initiated slot own slots (Ok None) k s = pass one_row held (Leave (Failed NegativeCount s.at)) k s
+counted_slots held initiated slot own slots (Err fault) k s = pass one_row held (Leave (Failed (ExpressionFault fault) s.at)) k s
+
+-- the question of this number is asked how many slots of the first row are required
+abbrev pub count_slots : Table → Held → Bool → SlotPlace → ℕ → List Slot → List Frame → State → Move
+count_slots table held initiated slot question [] k s = pass one_row held (Leave Done) k s
+count_slots table held initiated slot question (own ∷ slots) k s =
+    counted_slots held initiated slot own slots (count_told (given_by table (start.Inside s.inside) (question_at table question) s)) k
+    (behind_question table (start.Inside s.inside) question s)
 
 -- what a move makes of a slot whose separator behind it was sought, at this end
 abbrev pub settle : Tally → Held → Bool → SlotPlace → ℕ → Slot → List Slot → Progress → SlotMove → End → List Frame → State → Move
@@ -242,7 +277,7 @@ told_move limits focus sight cost next Missing k s = record {
 abbrev pub occurs : Tally → Held → Bool → SlotPlace → ℕ → List Frame → State → Bool → Move
 occurs cost held initiated slot body k s empty =
     pass cost held (Enter body) (Content slot s.at empty ∷ k)
-    (if opens_before (here_of slot.progress slot.rule) then s else opened_at initiated (here_of slot.progress slot.rule) s)
+    (as_occurrence (is_tried slot.rule) (if opens_before (here_of slot.progress slot.rule) then s else opened_at initiated (here_of slot.progress slot.rule) s))
 
 -- the step by which it is known whether a slot is empty, of which this is the reading
 abbrev pub in_move : Limits → Held → Bool → SlotPlace → ℕ → Reading Bool → List Frame → State → Move

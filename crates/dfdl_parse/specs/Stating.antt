@@ -3,7 +3,7 @@ use Rattle.std.specs.Prelude.{ℕ, nat_eq, Bool, true, false, List, ◌∷◌, O
 use Rattle.dfdl_bits.specs.Window.{Held}
 use Rattle.dfdl_paths.specs.declared.place.Start.{Start}
 use Rattle.dfdl_terms.specs.declared.statement.Statement.{Statement}
-use Rattle.dfdl_terms.specs.declared.statement.Statement.TheVariants.{Pattern, Expression, Setting, Calculation, Question}
+use Rattle.dfdl_terms.specs.declared.statement.Statement.TheVariants.{Pattern, Expression, Setting, Calculation, Question, Opening}
 use Rattle.dfdl_terms.specs.declared.statement.Statements.{Statements}
 use Rattle.dfdl_terms.specs.Rows.{Table}
 use Rattle.dfdl_looks.specs.Tallies.{Tally, nothing}
@@ -16,7 +16,7 @@ use Rattle.dfdl_grammar.specs.Statements.{reconsidered_from, start_of, stated, s
 use Rattle.dfdl_parse.specs.declared.frame.Frame.{Frame}
 use Rattle.dfdl_parse.specs.declared.frame.Frame.TheVariants.{Concluding}
 use Rattle.dfdl_parse.specs.declared.frame.Focus.{Focus}
-use Rattle.dfdl_parse.specs.declared.frame.Focus.TheVariants.{Enter, Pass, PassRest, Sized, Seek, LookIn, LookBehind, Leave}
+use Rattle.dfdl_parse.specs.declared.frame.Focus.TheVariants.{Enter, Pass, PassRest, Sized, Seek, LookIn, LookBehind, Count, Leave}
 use Rattle.dfdl_parse.specs.Moves.{Move, pass}
 use Rattle.dfdl_parse.specs.Testing.{read_test}
 
@@ -35,6 +35,7 @@ is_done (Sized prim size) = false
 is_done (Seek what) = false
 is_done (LookIn slot) = false
 is_done (LookBehind slot bit) = false
+is_done (Count slot question) = false
 is_done (Leave end) = is_well end
 
 -- a step that looks at nothing and comes to an outcome
@@ -53,6 +54,8 @@ make_statement cost limits table focus held number (Some (Calculation calculatio
     comes_to cost held (stated limits table (start_of (Some (Calculation calculation)) s) number (Some (Calculation calculation)) s) k
 make_statement cost limits table focus held number (Some (Question question)) k s =
     comes_to cost held (stated limits table (start_of (Some (Question question)) s) number (Some (Question question)) s) k
+make_statement cost limits table focus held number (Some (Opening opening)) k s =
+    comes_to cost held (stated limits table (start_of (Some (Opening opening)) s) number (Some (Opening opening)) s) k
 
 -- the stack before a component with these statements behind it, if there are some
 abbrev pub with_behind : Statements → Start → List Frame → List Frame

@@ -4,7 +4,8 @@ use Rattle.dfdl_bits.specs.Window.{Held}
 use Rattle.dfdl_report.specs.declared.cause.LimitCause.TheVariants.{Nodes}
 use Rattle.dfdl_report.specs.declared.cause.ParseCause.TheVariants.{RequiredEmpty}
 use Rattle.dfdl_terms.specs.declared.row.Row.{Row}
-use Rattle.dfdl_terms.specs.declared.row.Row.TheVariants.{Leaf, Elem, Group, Skip, Align, Initiator, Terminator, Separator, Scope, Boxed, PrefixedLeaf, PrefixedBox, MeasuredLeaf, MeasuredBox, Repeat, Counted, Optional, Choice, Dispatch, Statement, Concluded, Hidden, Separated}
+use Rattle.dfdl_terms.specs.declared.row.Row.TheVariants.{Leaf, Elem, Group, Skip, Align, Initiator, Terminator, Separator, Scope, Boxed, PrefixedLeaf, PrefixedBox, MeasuredLeaf, MeasuredBox, Repeat, Counted, Optional, Choice, Dispatch, Statement, Concluded, Hidden, Spanned, Instance, Separated}
+use Rattle.dfdl_terms.specs.declared.representations.Representations.{Representations}
 use Rattle.dfdl_looks.specs.Tallies.{Tally, nothing, one_row, plus}
 use Rattle.dfdl_grammar.specs.declared.end.End.{End}
 use Rattle.dfdl_grammar.specs.declared.end.End.TheVariants.{Done, Failed, Stopped}
@@ -14,6 +15,7 @@ use Rattle.dfdl_grammar.specs.declared.instead.Instead.TheVariants.{Nothing, Nil
 use Rattle.dfdl_grammar.specs.declared.mark.Mark.{Mark}
 use Rattle.dfdl_grammar.specs.States.{State}
 use Rattle.dfdl_grammar.specs.Marks.{back, closed, marked}
+use Rattle.dfdl_grammar.specs.Representations.{is_occurrence, representations_in}
 use Rattle.dfdl_grammar.specs.Elements.{begun, has_elements}
 use Rattle.dfdl_parse.specs.declared.frame.Frame.{Frame}
 use Rattle.dfdl_parse.specs.declared.frame.Frame.TheVariants.{Element, Trial}
@@ -23,32 +25,48 @@ use Rattle.dfdl_parse.specs.declared.frame.Focus.TheVariants.{Enter, Leave}
 use Rattle.dfdl_parse.specs.declared.frame.Parts.{Parts}
 use Rattle.dfdl_parse.specs.Moves.{Move, pass}
 
--- what the row of an element says of it
-abbrev pub parts_of : Option Row → Option Parts
-parts_of None = None
-parts_of (Some (Leaf prim)) = None
-parts_of (Some (Elem name simple tried statements body)) = Some (record { complex = has_elements simple; tried = tried; body = body })
-parts_of (Some (Group children)) = None
-parts_of (Some (Skip bits)) = None
-parts_of (Some (Align bits)) = None
-parts_of (Some (Initiator delimiter)) = None
-parts_of (Some (Terminator delimiter separators)) = None
-parts_of (Some Separator) = None
-parts_of (Some (Scope list body)) = None
-parts_of (Some (Boxed bits body)) = None
-parts_of (Some (PrefixedLeaf prefix prim)) = None
-parts_of (Some (PrefixedBox prefix body)) = None
-parts_of (Some (MeasuredLeaf measure prim)) = None
-parts_of (Some (MeasuredBox measure body)) = None
-parts_of (Some (Repeat count body)) = None
-parts_of (Some (Counted question body)) = None
-parts_of (Some (Optional most item initiated body)) = None
-parts_of (Some (Choice branches initiated)) = None
-parts_of (Some (Dispatch question keys)) = None
-parts_of (Some (Statement number)) = None
-parts_of (Some (Concluded statements body)) = None
-parts_of (Some (Hidden body)) = None
-parts_of (Some (Separated policy position initiated slots)) = None
+-- what the row of an element says of it, or of an occurrence of it that is tried
+abbrev pub parts_of : Bool → Option Row → Option Parts
+parts_of occurrence None = None
+parts_of occurrence (Some (Leaf prim)) = None
+parts_of occurrence (Some (Elem name simple tried statements body)) = Some (record {
+  complex = has_elements simple;
+  tried = representations_in occurrence tried;
+  body = body;
+  occurrence = occurrence;
+})
+parts_of occurrence (Some (Group children)) = None
+parts_of occurrence (Some (Skip bits)) = None
+parts_of occurrence (Some (Align bits)) = None
+parts_of occurrence (Some (Initiator delimiter)) = None
+parts_of occurrence (Some (Terminator delimiter separators)) = None
+parts_of occurrence (Some Separator) = None
+parts_of occurrence (Some (Scope list body)) = None
+parts_of occurrence (Some (Boxed bits body)) = None
+parts_of occurrence (Some (PrefixedLeaf prefix prim)) = None
+parts_of occurrence (Some (PrefixedBox prefix body)) = None
+parts_of occurrence (Some (MeasuredLeaf measure prim)) = None
+parts_of occurrence (Some (MeasuredBox measure body)) = None
+parts_of occurrence (Some (Repeat count body)) = None
+parts_of occurrence (Some (Counted question body)) = None
+parts_of occurrence (Some (Optional most item initiated body)) = None
+parts_of occurrence (Some (Choice branches initiated)) = None
+parts_of occurrence (Some (Dispatch question keys)) = None
+parts_of occurrence (Some (Statement number)) = None
+parts_of occurrence (Some (Concluded statements body)) = None
+parts_of occurrence (Some (Hidden body)) = None
+parts_of occurrence (Some (Spanned body)) = None
+parts_of occurrence (Some (Instance statement body)) = None
+parts_of occurrence (Some (Separated policy position initiated slots)) = None
+
+-- the same of the element that begins, where content is read by this
+abbrev pub parts_here : Instead → Bool → Representations → ℕ → Parts
+parts_here instead complex tried body = record {
+  complex = complex;
+  tried = representations_in (is_occurrence instead) tried;
+  body = body;
+  occurrence = is_occurrence instead;
+}
 
 -- the cost of an element's row and of its first representation
 abbrev pub two_rows : Tally
@@ -63,17 +81,17 @@ attempt cost most held id parts instead k s =
 
 -- the normal representation begins, as the last one
 abbrev pub try_normal : Tally → ℕ → Held → ℕ → Parts → List Frame → State → Move
-try_normal cost most held id parts k s = attempt cost most held id parts Nothing (Trial id next.Nothing ∷ k) s
+try_normal cost most held id parts k s = attempt cost most held id parts Nothing (Trial id parts.occurrence next.Nothing ∷ k) s
 
 -- the empty representation begins, where there is one, and else the normal one
 abbrev pub try_empty : Tally → ℕ → Held → ℕ → Parts → Option ℕ → List Frame → State → Move
 try_empty cost most held id parts None k s = try_normal cost most held id parts k s
-try_empty cost most held id parts (Some prim) k s = attempt cost most held id parts (Empty prim) (Trial id next.Normal ∷ k) s
+try_empty cost most held id parts (Some prim) k s = attempt cost most held id parts (Empty prim) (Trial id parts.occurrence next.Normal ∷ k) s
 
 -- the nil representation begins, where there is one, and else another one
 abbrev pub try_nil : Tally → ℕ → Held → ℕ → Parts → Option ℕ → List Frame → State → Move
 try_nil cost most held id parts None k s = try_empty cost most held id parts parts.tried.empty k s
-try_nil cost most held id parts (Some prim) k s = attempt cost most held id parts (Nil prim) (Trial id next.Empty ∷ k) s
+try_nil cost most held id parts (Some prim) k s = attempt cost most held id parts (Nil prim) (Trial id parts.occurrence next.Empty ∷ k) s
 
 -- an element begins: with a mark, where it has several representations
 abbrev pub enter_element : ℕ → Held → ℕ → Parts → List Frame → State → Move

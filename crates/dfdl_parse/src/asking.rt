@@ -81,7 +81,7 @@ impl Parser {
     }
 
     // What the expression of the question of this number gives, which begins there, if it is one. The variables that it asks for are read.
-    fn ask(
+    pub(crate) fn ask(
         &mut self,
         terms: &Terms,
         question: u32,
@@ -123,6 +123,7 @@ impl Parser {
                 let value = self.evaluate(terms, &question.expression, start)?;
                 Ok(Some(value))
             }
+            Statement::Opening(_) => Ok(None),
         }
     }
 
@@ -261,8 +262,8 @@ impl Parser {
     }
 }
 
-// How many a question tells by what its expression gives.
-fn count_told(alloc: Global, given: Option<Evaluated>) -> Result<Option<u128>, u8>
+/// How many a question tells by what its expression gives.
+pub(crate) fn count_told(alloc: Global, given: Option<Evaluated>) -> Result<Option<u128>, u8>
     ensures { result ≡ count_told given }
 {
     match given {

@@ -31,6 +31,7 @@ impl Parser {
                         stop: self.stop,
                         hidden: self.hidden,
                     },
+                    from: self.at,
                 })?;
                 self.stop = end;
                 self.hidden = self.lists.len();
@@ -41,13 +42,16 @@ impl Parser {
         Ok(())
     }
 
-    // The content of the innermost box is done, and this is around the box.
-    pub(crate) fn leave_box(&mut self, outer: Outside)
+    // The content of the innermost box is done, which began at this bit, and this is around the box.
+    pub(crate) fn leave_box(&mut self, outer: Outside, from: u64)
         ensures moved { (held : Held) → Moved
-            (leave_box held outer self.old.stack (state_of self.old)) false self.old.far self.new held 0 }
+            (leave_box held outer from self.old.stack (state_of self.old)) false self.old.far self.new held 0 }
         ensures most { HasSameLimits self.old self.new }
         ensures at { self.new.at ≡ self.old.at }
     {
+        let content = self.stop.saturating_sub(from);
+        let value = self.at.saturating_sub(from);
+        self.tell_lengths(content, value);
         if self.stop <= self.at {
             self.go_outside(outer);
             self.focus = Focus::Leave(End::Done);

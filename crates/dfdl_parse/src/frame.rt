@@ -16,17 +16,23 @@ pub enum Frame {
         outer: u32,
         complex: bool,
     },
-    /// A box ends, and this is around it.
+    /// A box ends that began at this bit, and this is around it.
     Box {
         outer: Outside,
+        from: u64,
+    },
+    /// The content of the open element ends, which has no box and began at this bit.
+    Spanning {
+        from: u64,
     },
     /// A component with a terminator ends, and so many lists are open again.
     Scope {
         count: usize,
     },
-    /// A representation of the element of this row ends, for which a mark is open.
+    /// A representation of the element of this row, or of an occurrence of it that is tried, ends, for which a mark is open.
     Trial {
         element: RowId,
+        occurrence: bool,
         next: Next,
     },
     /// A branch of the choice of this row ends, for which a point is open. Where it fails, the branch of this place follows ('Choices').
@@ -61,11 +67,17 @@ pub enum Frame {
         slot: SlotPlace,
         bit: u64,
     },
+    /// A row without a slot ends, and the sequence goes on with this one.
+    Aside {
+        slot: SlotPlace,
+    },
     /// A component ends that has these statements behind it, whose expressions begin there ('DFDL Schema Component Model').
     Concluding {
         behind: Statements,
         start: Start,
     },
+    /// A component ends for which an instance of a variable was opened ('DFDL Expression Language').
+    Instance,
 }
 
 /// A slot of a sequence with separators whose occurrences are tried, and how far the sequence has come ('Sequence Groups').
@@ -79,7 +91,7 @@ pub struct SlotPlace {
     pub optional: bool,
     pub rule: SlotRule,
     /// how many more of these there may be behind it
-    pub left: u64,
+    pub left: u128,
     pub progress: Progress,
     /// the bit at which the content of the slot began that was there last
     pub last: u64,
@@ -94,6 +106,10 @@ pub(crate) enum Coming {
     Seeks { slot: SlotPlace, here: Here },
     /// One that begins with its content, of the row of this number.
     Parses { slot: SlotPlace, body: u32 },
+    /// Those of a row of which the question of this number tells how many are required.
+    Counts { slot: SlotPlace, question: u32 },
+    /// The row of this number, which has none, and this one behind it.
+    Aside { slot: SlotPlace, body: u32 },
     /// One without the separator that it has to begin with.
     Lacks,
     /// None at all.
@@ -120,13 +136,15 @@ pub enum Next {
     Nothing,
 }
 
-/// What the row of an element says of it.
+/// What the row of an element says of it, or of an occurrence of it that is tried.
 #[derive(Debug, Clone, Copy, PartialEq, Eq)]
 pub(crate) struct Parts {
     /// It has elements inside.
     pub(crate) complex: bool,
     pub(crate) tried: Representations,
     pub(crate) body: RowId,
+    /// It is an occurrence that is tried.
+    pub(crate) occurrence: bool,
 }
 
 /// A delimiter that is sought ('Framing', 'Sequence Groups').
@@ -166,6 +184,8 @@ pub enum Focus {
     LookIn { slot: SlotPlace },
     /// It is looked whether a separator follows behind a slot, whose content began at this bit.
     LookBehind { slot: SlotPlace, bit: u64 },
+    /// The question of this number is asked how many slots of a row are required.
+    Count { slot: SlotPlace, question: u32 },
     /// A row has ended.
     Leave(End),
 }

@@ -3,20 +3,19 @@ ghost use Rattle.std.specs.Prelude.{◌≡◌, ℕ, ◌+◌, ◌-◌, ◌*◌, �
 ghost use Rattle.dfdl_bits.specs.Window.{Held, end_of, from_byte, seen_at};
 ghost use Rattle.dfdl_region.specs.Bytes.{utf8_of};
 ghost use Rattle.dfdl_report.specs.declared.cause.LimitCause.TheVariants.{Text};
-ghost use Rattle.dfdl_region.specs.Nodes.{with_content};
 ghost use Rattle.dfdl_grammar.specs.declared.end.End.{End as AnyEnd};
 ghost use Rattle.dfdl_grammar.specs.declared.end.End.TheVariants.{Done};
 ghost use Rattle.dfdl_grammar.specs.declared.end.Halt.TheVariants.{Limit};
 ghost use Rattle.dfdl_grammar.specs.Outcomes.{ended};
 ghost use Rattle.dfdl_terms.specs.declared.delimiters.Delimiters.{Delimiters};
 ghost use Rattle.dfdl_grammar.specs.Delimiters.{lists_of, markup};
-ghost use Rattle.dfdl_grammar.specs.Leaves.{Find, content_begins, failing_bit, has_room, hold, nil_values, program_for, read_by, values_in};
+ghost use Rattle.dfdl_grammar.specs.Leaves.{Find, content_begins, failing_bit, has_room, hold, nil_values, program_for, read_by, taken_as, values_in};
 ghost use Rattle.dfdl_looks.specs.Asks.{Reading, ask};
 ghost use Rattle.dfdl_looks.specs.Tallies.{Tally, nothing};
 ghost use Rattle.dfdl_grammar.specs.States.{anchor};
 ghost use Rattle.dfdl_parse.specs.Opens.{IsHeld};
 ghost use Rattle.dfdl_parse.specs.Moves.{read_leaf, read_move};
-ghost use Rattle.dfdl_leaves.specs.Readings.{Answers, HasPiece, IsWithin};
+ghost use Rattle.dfdl_leaves.specs.Readings.{Answers, HasPiece, IsWithin, text_span};
 ghost use Rattle.dfdl_parse.specs.Steps.{IsFree, Moved};
 ghost use Rattle.dfdl_parse.specs.Registered.{HasOpen, IsRegistered};
 ghost use Rattle.dfdl_parse.specs.Shown.{Comes, HasSameLimits, limits_of, state_of};
@@ -26,8 +25,8 @@ use crate::frame::Focus;
 use crate::parser::Parser;
 use dfdl_bits::{Steps, Window};
 use dfdl_delims::OpenLists;
-use dfdl_grammar::{End, Instead};
-use dfdl_leaves::{Found, Glance, Leaf, Wanted, content_begins, has_room, read_wanted};
+use dfdl_grammar::{End, Instead, Span};
+use dfdl_leaves::{Found, Glance, Leaf, Wanted, content_begins, has_room, read_wanted, text_span};
 use dfdl_region::Content;
 use dfdl_report::{LimitCause, ParseCause};
 use dfdl_terms::{Primitive, Terms};
@@ -79,6 +78,7 @@ impl Parser {
                 Wanted::OneOf(_) => prim,
             },
             Instead::Empty(instead) => instead,
+            Instead::Tried => prim,
         }
     }
 
@@ -90,6 +90,7 @@ impl Parser {
             Instead::Nothing => Wanted::Any,
             Instead::Nil(instead) => values_at(terms, instead),
             Instead::Empty(_) => Wanted::Any,
+            Instead::Tried => Wanted::Any,
         }
     }
 
@@ -203,10 +204,15 @@ impl Parser {
     {
         match &glance.found {
             Found::NotYet => return true,
-            Found::Reads { content, end } => self.put(*content, *end),
-            Found::Octets { end } => self.hold_octets(*end),
-            Found::Utf8 { end } => self.hold_utf8(*end),
-            Found::Text { from, to, end } => self.hold_text(*from, *to, *end),
+            Found::Reads { content, span } => self.put(*content, *span),
+            Found::Octets { span } => self.hold_octets(*span),
+            Found::Utf8 { span } => self.hold_utf8(*span),
+            Found::Text {
+                from,
+                to,
+                end,
+                value,
+            } => self.hold_text(*from, *to, *end, *value),
             Found::Fails(cause) => {
                 self.fail_at(*cause, failing_bit(*cause, self.at, first));
             }
@@ -216,55 +222,56 @@ impl Parser {
         false
     }
 
-    // The innermost open element gets its content, which ends at a bit.
-    pub(crate) fn put(&mut self, content: Content, end: u64)
-        ensures { Comes self.old (ended Done (record (state_of self.old) {
-          at = end;
-          nodes = with_content self.old.region.nodes self.old.inside content;
-        })) self.new }
+    // The innermost open element gets a content of this span.
+    pub(crate) fn put(&mut self, content: Content, span: Span)
+        ensures { Comes self.old (ended Done (taken_as content span (state_of self.old))) self.new }
     {
+        let length = span.end.saturating_sub(self.at);
         self.region.set_content(self.inside, content);
-        self.at = end;
+        self.tell_lengths(length, span.value);
+        self.at = span.end;
         self.focus = Focus::Leave(End::Done);
     }
 
-    // The innermost open element gets the bytes that were read as its content, which ends at a bit.
-    fn hold_octets(&mut self, end: u64)
-        ensures { Comes self.old (hold self.old.text.most Content.Octets self.old.scratch.octets.items end (state_of self.old)) self.new }
+    // The innermost open element gets the bytes that were read as its content of this span.
+    fn hold_octets(&mut self, span: Span)
+        ensures { Comes self.old (hold self.old.text.most Content.Octets self.old.scratch.octets.items span (state_of self.old)) self.new }
     {
         match self.text.add(self.scratch.octets.as_slice()) {
             Ok(from) => {
                 let len = self.text.count() - from;
-                self.put(Content::Octets { from, len }, end);
+                self.put(Content::Octets { from, len }, span);
             }
             Err(_) => self.stop_at_text(),
         }
     }
 
-    // The innermost open element gets the bytes that were read as a string, which ends at a bit.
-    fn hold_utf8(&mut self, end: u64)
-        ensures { Comes self.old (hold self.old.text.most Content.Text self.old.scratch.octets.items end (state_of self.old)) self.new }
+    // The innermost open element gets the bytes that were read as a string of this span.
+    fn hold_utf8(&mut self, span: Span)
+        ensures { Comes self.old (hold self.old.text.most Content.Text self.old.scratch.octets.items span (state_of self.old)) self.new }
     {
         match self.text.add(self.scratch.octets.as_slice()) {
             Ok(from) => {
                 let len = self.text.count() - from;
-                self.put(Content::Text { from, len }, end);
+                self.put(Content::Text { from, len }, span);
             }
             Err(_) => self.stop_at_text(),
         }
     }
 
-    // The innermost open element gets the characters that were read, from one place to another, as its content, which ends at
-    // a bit.
-    fn hold_text(&mut self, from: usize, to: usize, end: u64)
+    // The innermost open element gets the characters that were read, from one place to another, as its content, whose box ends at
+    // a bit. Its value has so many bits, where these aren't those of its bytes as UTF-8.
+    fn hold_text(&mut self, from: usize, to: usize, end: u64, value: Option<u64>)
         requires { (from ≤ to) × (to ≤ length self.old.scratch.characters.items) }
         ensures { Comes self.old (hold self.old.text.most Content.Text
-            (utf8_of (take (to - from) (drop from self.old.scratch.characters.items))) end (state_of self.old)) self.new }
+            (utf8_of (take (to - from) (drop from self.old.scratch.characters.items)))
+            (text_span (length (utf8_of (take (to - from) (drop from self.old.scratch.characters.items)))) end value) (state_of self.old)) self.new }
     {
         match self.text.add_characters(&self.scratch.characters[from..to]) {
             Ok(from) => {
                 let len = self.text.count() - from;
-                self.put(Content::Text { from, len }, end);
+                let span = text_span(u64::from(len), end, value);
+                self.put(Content::Text { from, len }, span);
             }
             Err(_) => self.stop_at_text(),
         }

@@ -63,8 +63,12 @@ impl Parser {
         ensures at { OnOk result (IsBefore self.old.marks self.old.at → ComesBack frame self.old.at → self.new.at ≤ self.old.at) }
     {
         match frame {
-            Frame::Trial { element, next } => {
-                let parts = parts_of(terms, element);
+            Frame::Trial {
+                element,
+                occurrence,
+                next,
+            } => {
+                let parts = parts_of(terms, element, occurrence);
                 self.retry(parts, element, next, end)
             }
             Frame::Branch { choice, next } => self.fail_branch(terms, choice, next, end),
@@ -78,6 +82,10 @@ impl Parser {
             }
             Frame::Closing { slot, bit } => self.end_closing(terms, slot, bit, false, end),
             Frame::Concluding { behind, start } => self.reconsider(terms, behind, start, end),
+            Frame::Instance => {
+                self.end_instance(end);
+                Ok(())
+            }
             Frame::Rest { .. } => {
                 self.focus = Focus::Leave(end);
                 Ok(())
@@ -86,12 +94,20 @@ impl Parser {
                 self.focus = Focus::Leave(end);
                 Ok(())
             }
+            Frame::Aside { .. } => {
+                self.focus = Focus::Leave(end);
+                Ok(())
+            }
             Frame::Element { .. } => {
                 self.focus = Focus::Leave(end);
                 Ok(())
             }
-            Frame::Box { outer } => {
+            Frame::Box { outer, .. } => {
                 self.hidden = outer.hidden;
+                self.focus = Focus::Leave(end);
+                Ok(())
+            }
+            Frame::Spanning { .. } => {
                 self.focus = Focus::Leave(end);
                 Ok(())
             }
@@ -116,16 +132,24 @@ impl Parser {
                 self.close(outer, complex);
                 Ok(())
             }
-            Frame::Box { outer } => {
-                self.leave_box(outer);
+            Frame::Box { outer, from } => {
+                self.leave_box(outer, from);
+                Ok(())
+            }
+            Frame::Spanning { from } => {
+                self.end_span(from);
                 Ok(())
             }
             Frame::Scope { count } => {
                 self.end_scope(count, End::Done);
                 Ok(())
             }
-            Frame::Trial { element, next } => {
-                let parts = parts_of(terms, element);
+            Frame::Trial {
+                element,
+                occurrence,
+                next,
+            } => {
+                let parts = parts_of(terms, element, occurrence);
                 self.finish_trial(parts, next);
                 Ok(())
             }
@@ -145,7 +169,12 @@ impl Parser {
                 self.end_content(terms, slot, bit, empty, moved, End::Done)
             }
             Frame::Closing { slot, bit } => self.end_closing(terms, slot, bit, true, End::Done),
+            Frame::Aside { slot } => self.go_beside(terms, slot),
             Frame::Concluding { behind, start } => self.conclude(terms, behind, start),
+            Frame::Instance => {
+                self.end_instance(End::Done);
+                Ok(())
+            }
         }
     }
 
@@ -219,6 +248,8 @@ pub(crate) fn child_of(terms: &Terms, group: RowId, place: usize) -> Option<RowI
         Row::Statement { .. } => None,
         Row::Concluded { .. } => None,
         Row::Hidden { .. } => None,
+        Row::Spanned { .. } => None,
+        Row::Instance { .. } => None,
         Row::Separated { .. } => None,
     }
 }

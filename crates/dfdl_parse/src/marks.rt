@@ -5,7 +5,7 @@ ghost use Rattle.dfdl_grammar.specs.States.{held_from};
 ghost use Rattle.dfdl_parse.specs.Resolving.{is_initiated_at, resolved_at};
 
 use dfdl_grammar::Mark;
-use dfdl_region::Content;
+use dfdl_region::{Content, Lengths};
 use std::alloc::{AllocError, Global};
 use std::marker::Model;
 
@@ -37,7 +37,7 @@ impl Marks {
     pub(crate) fn push(&mut self, mark: Mark) -> Result<(), AllocError>
         ensures { OnOk result (self.new ≡ mark ∷ self.old) }
     {
-        put(&mut self.marks, mark, mark.content)
+        put(&mut self.marks, mark, mark.content, mark.lengths)
     }
 
     /// Closes the innermost mark, if there is one.
@@ -108,11 +108,20 @@ impl Marks {
     }
 }
 
-// Puts a mark behind the others, of an element that has this.
-fn put(marks: &mut Vec<Mark>, mark: Mark, content: Content) -> Result<(), AllocError>
-    ensures { OnOk result (marks.new.items ≡ marks.old.items ++ record mark { content = content } ∷ []) }
+// Puts a mark behind the others, of an element that has this and is so long.
+fn put(
+    marks: &mut Vec<Mark>,
+    mark: Mark,
+    content: Content,
+    lengths: Option<Lengths>,
+) -> Result<(), AllocError>
+    ensures { OnOk result (marks.new.items ≡ marks.old.items ++ record mark { content = content; lengths = lengths } ∷ []) }
 {
-    marks.push(Mark { content, ..mark })?;
+    marks.push(Mark {
+        content,
+        lengths,
+        ..mark
+    })?;
     Ok(())
 }
 

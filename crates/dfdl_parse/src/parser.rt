@@ -14,14 +14,15 @@ ghost use Rattle.dfdl_parse.specs.Steps.{Moved};
 ghost use Rattle.dfdl_parse.specs.Registered.{IsRegistered};
 ghost use Rattle.dfdl_parse.specs.Shown.{HasSameLimits, limits_of, state_of};
 
-use crate::frame::{Behind, Focus, Frame, Parts, Sought};
+use crate::frame::{Behind, Focus, Frame, Sought};
 use crate::framing::{last_bit, last_byte, look_beyond};
+use crate::instances::variables_of;
 use crate::marks::Marks;
 use crate::outcome::Outcome;
 use crate::register::register_of;
 use crate::scopes::Scopes;
 use crate::stack::Stack;
-use crate::stating::{evaluation_of, variables_of};
+use crate::stating::evaluation_of;
 use dfdl_bits::{Seen, Steps, Window};
 use dfdl_delims::{Candidates, Markup};
 use dfdl_expression_eval::Scratch as Evaluation;
@@ -141,6 +142,7 @@ impl Parser {
             Focus::Seek { .. } => Outcome::Open,
             Focus::LookIn { .. } => Outcome::Open,
             Focus::LookBehind { .. } => Outcome::Open,
+            Focus::Count { .. } => Outcome::Open,
             Focus::Leave(end) => {
                 if self.stack.is_empty() {
                     answer_of(end)
@@ -163,6 +165,7 @@ impl Parser {
             Focus::Seek { .. } => false,
             Focus::LookIn { .. } => false,
             Focus::LookBehind { .. } => false,
+            Focus::Count { .. } => false,
             Focus::Leave(_) => self.stack.is_empty(),
         }
     }
@@ -208,6 +211,10 @@ impl Parser {
                 let waits = self.look_behind(terms, slot, bit, sight, steps)?;
                 Ok(waits)
             }
+            Focus::Count { slot, question } => {
+                self.ask_count(terms, slot, question)?;
+                Ok(false)
+            }
             Focus::Leave(end) => {
                 self.leave(terms, end)?;
                 Ok(false)
@@ -250,12 +257,7 @@ impl Parser {
                 body,
                 ..
             } => {
-                let parts = Parts {
-                    complex: simple.is_none(),
-                    tried: *tried,
-                    body: *body,
-                };
-                self.begin_with(id, *behind, parts)?;
+                self.begin_with(id, *behind, simple.is_none(), *tried, *body)?;
                 Ok(false)
             }
             Row::Group { children } => {
@@ -357,6 +359,15 @@ impl Parser {
             Row::Hidden { body } => {
                 let _end = sight.end();
                 self.focus = Focus::Enter(*body);
+                Ok(false)
+            }
+            Row::Spanned { body } => {
+                let _end = sight.end();
+                self.begin_span(*body)?;
+                Ok(false)
+            }
+            Row::Instance { statement, body } => {
+                self.begin_instance(terms, *statement, *body)?;
                 Ok(false)
             }
             Row::Separated {

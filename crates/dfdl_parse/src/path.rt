@@ -98,6 +98,8 @@ fn push_name(
         Row::Statement { .. } => Ok(()),
         Row::Concluded { .. } => Ok(()),
         Row::Hidden { .. } => Ok(()),
+        Row::Spanned { .. } => Ok(()),
+        Row::Instance { .. } => Ok(()),
         Row::Separated { .. } => Ok(()),
     }
 }

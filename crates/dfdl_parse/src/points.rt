@@ -8,6 +8,7 @@ ghost use Rattle.dfdl_looks.specs.Tallies.{Tally, nothing};
 ghost use Rattle.dfdl_parse.specs.Machines.{children_of};
 ghost use Rattle.dfdl_parse.specs.Moves.{pass};
 ghost use Rattle.dfdl_parse.specs.Opens.{IsBefore};
+ghost use Rattle.dfdl_grammar.specs.Occurrences.{as_normal};
 ghost use Rattle.dfdl_parse.specs.Points.{branch_failed, occurrence_done, occurrence_failed, try_branch, try_occurrence};
 ghost use Rattle.dfdl_parse.specs.Steps.{IsFree, Moved};
 ghost use Rattle.dfdl_parse.specs.Shown.{HasSameLimits, state_of};
@@ -15,7 +16,7 @@ ghost use Rattle.dfdl_parse.specs.Shown.{HasSameLimits, state_of};
 use crate::frame::{Focus, Frame};
 use crate::leaving::child_of;
 use crate::parser::Parser;
-use dfdl_grammar::End;
+use dfdl_grammar::{End, Instead};
 use dfdl_report::ParseCause;
 use dfdl_terms::{RowId, Terms};
 use std::alloc::AllocError;
@@ -115,6 +116,7 @@ impl Parser {
             initiated,
             left: left - 1,
         })?;
+        self.instead = Instead::Tried;
         self.focus = Focus::Enter(body);
         Ok(())
     }
@@ -127,10 +129,11 @@ impl Parser {
         left: u64,
     ) -> Result<(), AllocError>
         ensures moved { (held : Held) → OnOk result (Moved
-            (occurrence_done held body initiated left self.old.stack (state_of self.old)) false self.old.far self.new held 0) }
+            (occurrence_done held body initiated left self.old.stack (as_normal (state_of self.old))) false self.old.far self.new held 0) }
         ensures most { OnOk result (HasSameLimits self.old self.new) }
         ensures at { OnOk result (IsBefore self.old.marks self.old.at → self.new.at ≤ self.old.at) }
     {
+        self.instead = Instead::Nothing;
         let stays = self.marks.stays_at(self.at);
         if stays {
             self.drop_occurrence();
@@ -143,10 +146,11 @@ impl Parser {
     // An occurrence has failed at this end: it is dropped. Where its point is resolved, the array fails as it did.
     pub(crate) fn fail_occurrence(&mut self, end: End)
         ensures moved { (held : Held) → Moved
-            (occurrence_failed held end self.old.stack (state_of self.old)) false self.old.far self.new held 0 }
+            (occurrence_failed held end self.old.stack (as_normal (state_of self.old))) false self.old.far self.new held 0 }
         ensures most { HasSameLimits self.old self.new }
         ensures at { IsBefore self.old.marks self.old.at → self.new.at ≤ self.old.at }
     {
+        self.instead = Instead::Nothing;
         let settled = self.marks.is_settled();
         if settled {
             self.end_trial(end);

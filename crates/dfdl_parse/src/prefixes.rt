@@ -117,9 +117,9 @@ impl Parser {
     {
         match &glance.found {
             Found::NotYet => return Ok(true),
-            Found::Reads { content, end } => {
+            Found::Reads { content, span } => {
                 let units = units_told(prefix.own, content);
-                self.go_behind(terms, units, *end, prefix.unit, behind)?;
+                self.go_behind(terms, units, span.end, prefix.unit, behind)?;
             }
             Found::Octets { .. } => self.fail(ParseCause::LengthOutOfRange),
             Found::Utf8 { .. } => self.fail(ParseCause::LengthOutOfRange),

@@ -253,5 +253,6 @@ fn stands_in(instead: Instead, delimiter: Delimiter) -> bool
         Instead::Nothing => true,
         Instead::Nil(_) => delimiter.in_nil,
         Instead::Empty(_) => delimiter.in_empty,
+        Instead::Tried => true,
     }
 }

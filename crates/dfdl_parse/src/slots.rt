@@ -5,7 +5,7 @@ ghost use Rattle.dfdl_grammar.specs.Slots.{has_mark, is_blank, is_taken_back, is
 ghost use Rattle.dfdl_separators.specs.declared.progress.Progress.{Progress as AnyProgress};
 ghost use Rattle.dfdl_parse.specs.declared.frame.Coming.{Coming as AnyComing};
 ghost use Rattle.dfdl_separators.specs.Verdicts.{outcome};
-ghost use Rattle.dfdl_parse.specs.Slots.{begins_by, cause_of, coming_from, first_here, first_in, first_of, later_than, or_next, separation_at, separation_of, slots_from, then_tried};
+ghost use Rattle.dfdl_parse.specs.Slots.{begins_by, cause_of, coming_from, first_here, first_in, first_of, first_row, first_told, later_than, or_next, separation_at, separation_of, slots_from, then_tried};
 
 use crate::frame::{Coming, SlotPlace};
 use dfdl_grammar::End;
@@ -76,6 +76,19 @@ pub(crate) fn coming_from(slot: SlotPlace, own: &Slot, later: &[Slot]) -> Coming
     }
 }
 
+/// The first slot of the rows from a place on.
+pub(crate) fn first_behind(terms: &Terms, slot: SlotPlace) -> Coming
+    ensures { result ≡ first_in slot (slots_from terms.now slot) }
+{
+    let slots = slots_of(terms, RowId::new(slot.sequence));
+    let place = slot.place;
+    if place <= slots.len() {
+        first_in(slot, &slots[place..])
+    } else {
+        Coming::Past(slot.progress)
+    }
+}
+
 // How far the sequence has come, where none of the slots begins that were asked for.
 fn past(coming: Coming) -> Option<Progress>
     ensures some { IfSome result (λ progress. coming ≡ Coming.Past progress) }
@@ -85,6 +98,8 @@ fn past(coming: Coming) -> Option<Progress>
         Coming::Past(progress) => Some(progress),
         Coming::Seeks { .. } => None,
         Coming::Parses { .. } => None,
+        Coming::Counts { .. } => None,
+        Coming::Aside { .. } => None,
         Coming::Lacks => None,
         Coming::Over => None,
     }
@@ -109,7 +124,7 @@ pub(crate) fn first_in(slot: SlotPlace, slots: &[Slot]) -> Coming
 {
     let mut next = slot;
     for own in slots {
-        let first = first_here(begin(next, own), own);
+        let first = first_row(next, own);
         match past(first) {
             Some(progress) => next = behind(next, progress),
             None => return first,
@@ -118,13 +133,37 @@ pub(crate) fn first_in(slot: SlotPlace, slots: &[Slot]) -> Coming
     Coming::Past(next.progress)
 }
 
+// The first slot of a row, of which a question may tell how many are required, or the row itself, if it has none.
+fn first_row(slot: SlotPlace, own: &Slot) -> Coming
+    requires { slot.place + 1 ≤ 2 ^ 63 }
+    ensures { result ≡ first_row slot own.now }
+{
+    if own.is_slotless {
+        return Coming::Aside {
+            slot: behind(slot, slot.progress),
+            body: own.body.number(),
+        };
+    }
+    first_told(slot, own)
+}
+
+// The first slot of a row, of which a question may tell how many are required.
+fn first_told(slot: SlotPlace, own: &Slot) -> Coming
+    ensures { result ≡ first_told slot own.now own.now.question }
+{
+    match own.question {
+        None => first_here(begin(slot, own), own),
+        Some(question) => Coming::Counts { slot, question },
+    }
+}
+
 // The place of the first slot of a row.
 fn begin(slot: SlotPlace, own: &Slot) -> SlotPlace
     ensures { result ≡ record slot { optional = Bool.false; left = own.now.least } }
 {
     SlotPlace {
         optional: false,
-        left: u64::from(own.least),
+        left: u128::from(own.least),
         ..slot
     }
 }
@@ -149,7 +188,7 @@ fn then_tried(slot: SlotPlace, own: &Slot, progress: Progress) -> Coming
     }
     let tried = SlotPlace {
         optional: true,
-        left: own.further,
+        left: u128::from(own.further),
         progress,
         ..slot
     };

@@ -2,6 +2,7 @@
 ghost use Rattle.std.specs.Prelude.{◌≡◌, ◌∷◌, ◌+◌, ◌^◌, ◌≤◌, false, true, OnOk, length, if◌then◌else◌};
 ghost use Rattle.dfdl_parse.specs.declared.frame.Sought.{Sought};
 ghost use Rattle.dfdl_bits.specs.Window.{Held};
+ghost use Rattle.dfdl_grammar.specs.Occurrences.{as_normal};
 ghost use Rattle.dfdl_grammar.specs.Slots.{closed_slot, emptied, opens_before, taken_back};
 ghost use Rattle.dfdl_looks.specs.Tallies.{Tally};
 ghost use Rattle.dfdl_parse.specs.Moves.{pass};
@@ -12,7 +13,7 @@ ghost use Rattle.dfdl_parse.specs.Shown.{Becomes, state_of};
 use crate::frame::{Focus, Frame, SlotPlace};
 use crate::parser::Parser;
 use crate::slots::{cause_of, is_blank, is_initiated, later_than, opens_before, own_of};
-use dfdl_grammar::End;
+use dfdl_grammar::{End, Instead};
 use dfdl_separators::{Here, Progress, SlotMove, SlotSeen};
 use dfdl_terms::{Slot, Terms};
 use std::alloc::AllocError;
@@ -139,9 +140,10 @@ impl Parser {
     ) -> Result<(), AllocError>
         ensures becomes { (held : Held) → OnOk result (Becomes self.old
             (content_ended held (separation_at terms.now slot).initiated slot bit empty (slots_from terms.now slot) moved (cause_of end) end
-            self.old.stack (state_of self.old)).machine self.new) }
+            self.old.stack (as_normal (state_of self.old))).machine self.new) }
         ensures at { OnOk result (IsBefore self.old.marks self.old.at → bit ≤ self.old.at → self.new.at ≤ self.old.at) }
     {
+        self.instead = Instead::Nothing;
         let initiated = is_initiated(terms, slot);
         match own_of(terms, slot) {
             None => {

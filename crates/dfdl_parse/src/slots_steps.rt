@@ -1,7 +1,8 @@
 // A sequence with separators whose occurrences are tried, from slot to slot.
 ghost use Rattle.std.specs.Prelude.{◌≡◌, ◌∷◌, ◌+◌, ◌^◌, ◌≤◌, false, OnOk, length, ℕ};
 ghost use Rattle.dfdl_bits.specs.Window.{Held};
-ghost use Rattle.dfdl_grammar.specs.Slots.{closed_slot, emptied, taken_back};
+ghost use Rattle.dfdl_grammar.specs.Occurrences.{instead_in};
+ghost use Rattle.dfdl_grammar.specs.Slots.{closed_slot, emptied, is_tried, taken_back};
 ghost use Rattle.dfdl_looks.specs.Tallies.{Tally};
 ghost use Rattle.dfdl_parse.specs.Opens.{IsBefore};
 ghost use Rattle.dfdl_parse.specs.Slots.{comes, content_begins, enter_separated, goes_on, opened_at, sequence_ends};
@@ -10,7 +11,7 @@ ghost use Rattle.dfdl_parse.specs.Shown.{Becomes, state_of};
 use crate::frame::{Coming, Focus, Frame, SlotPlace, Sought};
 use crate::parser::Parser;
 use crate::slots::{coming_from, first_in, has_mark, is_tried, opens_before};
-use dfdl_grammar::End;
+use dfdl_grammar::{End, Instead};
 use dfdl_report::ParseCause;
 use dfdl_separators::{
     Here, Progress, SeparatorPosition, SeparatorSuppressionPolicy, SlotMove, SlotRule,
@@ -65,7 +66,12 @@ impl Parser {
     }
 
     // What comes next in a sequence begins.
-    fn come(&mut self, initiated: bool, last: u64, coming: Coming) -> Result<(), AllocError>
+    pub(crate) fn come(
+        &mut self,
+        initiated: bool,
+        last: u64,
+        coming: Coming,
+    ) -> Result<(), AllocError>
         ensures becomes { (held : Held) (cost : Tally) → OnOk result (Becomes self.old
             (comes cost held initiated last coming self.old.stack (state_of self.old)).machine self.new) }
         ensures at { OnOk result (self.new.at ≡ self.old.at) }
@@ -77,6 +83,14 @@ impl Parser {
             }
             Coming::Seeks { slot, here } => self.seek_before(initiated, *slot, *here),
             Coming::Parses { slot, body } => self.begin_content(*slot, *body),
+            Coming::Counts { slot, question } => {
+                self.focus = Focus::Count {
+                    slot: *slot,
+                    question: *question,
+                };
+                Ok(())
+            }
+            Coming::Aside { slot, body } => self.enter_aside(*slot, *body),
             Coming::Lacks => {
                 self.fail(ParseCause::SeparatorMissing);
                 Ok(())
@@ -155,14 +169,28 @@ impl Parser {
         body: u32,
         empty: bool,
     ) -> Result<(), AllocError>
-        ensures { OnOk result (self.new
-            ≡ record self.old { focus = Focus.Enter body; stack = Frame.Content slot self.old.at empty ∷ self.old.stack }) }
+        ensures { OnOk result (self.new ≡ record self.old {
+          focus = Focus.Enter body;
+          stack = Frame.Content slot self.old.at empty ∷ self.old.stack;
+          instead = instead_in (is_tried slot.rule) self.old.instead;
+        }) }
     {
         self.stack.push(Frame::Content {
             slot,
             bit: self.at,
             empty,
         })?;
+        self.instead = instead_in(is_tried(slot.rule), self.instead);
+        self.focus = Focus::Enter(RowId::new(body));
+        Ok(())
+    }
+
+    // A row without a slot begins, and the sequence goes on with this one behind it.
+    fn enter_aside(&mut self, slot: SlotPlace, body: u32) -> Result<(), AllocError>
+        ensures { OnOk result (self.new
+            ≡ record self.old { focus = Focus.Enter body; stack = Frame.Aside slot ∷ self.old.stack }) }
+    {
+        self.stack.push(Frame::Aside { slot })?;
         self.focus = Focus::Enter(RowId::new(body));
         Ok(())
     }
@@ -214,4 +242,11 @@ impl Parser {
         self.go_back();
         self.at = bit;
     }
+}
+
+// What content is read by where an occurrence begins, which is tried or not.
+fn instead_in(tried: bool, instead: Instead) -> Instead
+    ensures { result ≡ instead_in tried instead }
+{
+    if tried { Instead::Tried } else { instead }
 }

@@ -6,7 +6,6 @@ ghost use Rattle.dfdl_expression_eval.specs.Runs.{left_by};
 ghost use Rattle.dfdl_paths.specs.declared.place.Start.TheVariants.{At, Inside};
 ghost use Rattle.dfdl_surroundings.specs.Answers.{answer_in, read_in};
 ghost use Rattle.dfdl_surroundings.specs.Taking.{taken, truth_taken};
-ghost use Rattle.dfdl_vars.specs.Kept.{opened};
 ghost use Rattle.dfdl_region.specs.declared.node.Content.TheVariants as content;
 ghost use Rattle.dfdl_value.specs.declared.value.Value.TheVariants as values;
 ghost use Rattle.dfdl_terms.specs.Arrays.{item_marks};
@@ -17,28 +16,33 @@ ghost use Rattle.dfdl_grammar.specs.declared.end.End.TheVariants.{Done, Stopped}
 ghost use Rattle.dfdl_grammar.specs.declared.end.Halt.TheVariants.{Variable};
 ghost use Rattle.dfdl_grammar.specs.declared.limits.Limits.{Limits};
 ghost use Rattle.dfdl_grammar.specs.Leaves.{hold};
+ghost use Rattle.dfdl_grammar.specs.Spans.{vacant};
 ghost use Rattle.dfdl_grammar.specs.Statements.{around_at, calculated, evaluated, is_held, judged, reconsidered, reconsidered_from, set_by, set_to, start_of, stated, stated_from, told_at, variable_cause, with_reads};
 ghost use Rattle.dfdl_surroundings.specs.Answers.{element_of};
 ghost use Rattle.dfdl_parse.specs.Moves.{pass};
 ghost use Rattle.dfdl_parse.specs.Opens.{IsHeld};
 ghost use Rattle.dfdl_parse.specs.Stating.{conclude, is_done, is_well, make_statement, reconsider, with_behind};
-ghost use Rattle.dfdl_parse.specs.Trials.{enter_element};
+ghost use Rattle.dfdl_parse.specs.Trials.{enter_element, parts_here};
 ghost use Rattle.dfdl_parse.specs.Steps.{IsFree, Moved};
 ghost use Rattle.dfdl_parse.specs.Shown.{Becomes, Comes, HasSameLimits, limits_of, state_of};
 
-use crate::frame::{Focus, Frame, Parts};
+use crate::frame::{Focus, Frame};
 use crate::parser::Parser;
+use crate::trials::parts_here;
 use dfdl_bits::{Steps, Window};
 use dfdl_expression_eval::{Evaluated, Scratch as Evaluation};
 use dfdl_expressions::Expression;
 use dfdl_grammar::{End, Halt};
+use dfdl_leaves::vacant;
 use dfdl_paths::Start;
 use dfdl_region::Content;
 use dfdl_report::{ParseCause, VariableCause};
 use dfdl_surroundings::{Document, evaluate, take, take_truth};
-use dfdl_terms::{Calculation, ExpressionTest, RowId, Setting, Statement, Statements, Terms};
+use dfdl_terms::{
+    Calculation, ExpressionTest, Representations, RowId, Setting, Statement, Statements, Terms,
+};
 use dfdl_value::Value;
-use dfdl_vars::{VarFault, VarValues, Vars};
+use dfdl_vars::VarFault;
 use std::alloc::{AllocError, Global};
 use std::sync::ledger::Ledger;
 
@@ -116,6 +120,10 @@ impl Parser {
                 self.focus = Focus::Leave(End::Done);
                 Ok(false)
             }
+            Statement::Opening(_) => {
+                self.focus = Focus::Leave(End::Done);
+                Ok(false)
+            }
         }
     }
 
@@ -136,7 +144,6 @@ impl Parser {
             terms.tables().names(),
             self.region.nodes(),
             self.text.all(),
-            &[],
             &self.items,
             start,
         );
@@ -262,10 +269,10 @@ impl Parser {
         ensures { (limits : Limits) → limits.text ≡ self.old.text.most → Comes self.old (calculated limits (Ok value.now) (state_of self.old)) self.new }
     {
         match value {
-            Value::Int(number) => self.put(Content::Signed(*number), self.at),
-            Value::Uns(number) => self.put(Content::Unsigned(*number), self.at),
-            Value::Dec(number) => self.put(Content::Decimal(*number), self.at),
-            Value::Truth(truth) => self.put(Content::Truth(*truth), self.at),
+            Value::Int(number) => self.put(Content::Signed(*number), vacant(self.at)),
+            Value::Uns(number) => self.put(Content::Unsigned(*number), vacant(self.at)),
+            Value::Dec(number) => self.put(Content::Decimal(*number), vacant(self.at)),
+            Value::Truth(truth) => self.put(Content::Truth(*truth), vacant(self.at)),
             Value::Text(text) => self.give_str(text.as_str()),
             Value::Bytes(bytes) => self.give_bytes(bytes.as_slice()),
         }
@@ -281,12 +288,12 @@ impl Parser {
 
     // The open element gets a text.
     fn give_text(&mut self, text: &str)
-        ensures { Comes self.old (hold self.old.text.most content.Text text.now self.old.at (state_of self.old)) self.new }
+        ensures { Comes self.old (hold self.old.text.most content.Text text.now (vacant self.old.at) (state_of self.old)) self.new }
     {
         match self.text.add(text.as_bytes()) {
             Ok(from) => {
                 let len = self.text.count() - from;
-                self.put(Content::Text { from, len }, self.at);
+                self.put(Content::Text { from, len }, vacant(self.at));
             }
             Err(_) => self.stop_at_text(),
         }
@@ -294,12 +301,12 @@ impl Parser {
 
     // The open element gets bytes.
     fn give_bytes(&mut self, bytes: &[u8])
-        ensures { Comes self.old (hold self.old.text.most content.Octets bytes.now self.old.at (state_of self.old)) self.new }
+        ensures { Comes self.old (hold self.old.text.most content.Octets bytes.now (vacant self.old.at) (state_of self.old)) self.new }
     {
         match self.text.add(bytes) {
             Ok(from) => {
                 let len = self.text.count() - from;
-                self.put(Content::Octets { from, len }, self.at);
+                self.put(Content::Octets { from, len }, vacant(self.at));
             }
             Err(_) => self.stop_at_text(),
         }
@@ -347,6 +354,10 @@ impl Parser {
                 self.focus = Focus::Leave(End::Done);
                 Ok(())
             }
+            Statement::Opening(_) => {
+                self.focus = Focus::Leave(End::Done);
+                Ok(())
+            }
         }
     }
 
@@ -385,6 +396,7 @@ impl Parser {
             Statement::Setting(_) => Ok(()),
             Statement::Calculation(_) => Ok(()),
             Statement::Question(_) => Ok(()),
+            Statement::Opening(_) => Ok(()),
         }
     }
 
@@ -459,14 +471,18 @@ impl Parser {
         &mut self,
         id: RowId,
         behind: Statements,
-        parts: Parts,
+        complex: bool,
+        tried: Representations,
+        body: RowId,
     ) -> Result<(), AllocError>
         ensures moved { (held : Held) → OnOk result (Moved
-            (enter_element self.old.region.most held id parts (with_behind behind (At (length self.old.region.nodes)) self.old.stack) (state_of self.old))
+            (enter_element self.old.region.most held id (parts_here self.old.instead complex tried body)
+            (with_behind behind (At (length self.old.region.nodes)) self.old.stack) (state_of self.old))
             false self.old.far self.new held 0) }
         ensures most { OnOk result (HasSameLimits self.old self.new) }
         ensures at { OnOk result (self.new.at ≡ self.old.at) }
     {
+        let parts = parts_here(self.instead, complex, tried, body);
         let start = Start::At(self.region.count());
         self.push_behind(behind, start)?;
         self.begin_element(id, parts)
@@ -567,6 +583,7 @@ fn is_done(focus: Focus) -> bool
         Focus::Seek { .. } => false,
         Focus::LookIn { .. } => false,
         Focus::LookBehind { .. } => false,
+        Focus::Count { .. } => false,
     }
 }
 
@@ -608,13 +625,6 @@ fn variable_cause(fault: VarFault) -> VariableCause
         VarFault::SetTwice => VariableCause::SetTwice,
         VarFault::SetAfterRead => VariableCause::SetAfterRead,
     }
-}
-
-/// The variables of a schema before its data are parsed, each with its default.
-pub(crate) fn variables_of(alloc: Global, terms: &Terms) -> Result<Vars, AllocError>
-    ensures { IfOk result (λ variables. variables ≡ opened terms.now.variables [] 0) }
-{
-    Vars::open(alloc, terms.tables().variables(), &VarValues::new(alloc), 0)
 }
 
 /// The memory for the evaluation of expressions.

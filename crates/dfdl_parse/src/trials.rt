@@ -1,20 +1,22 @@
 // An element, by its representations: nil, empty and normal, in this order from one place.
 ghost use Rattle.std.specs.Prelude.{◌≡◌, ◌≤◌, ◌∷◌, Some, false, OnOk, slice_get};
 ghost use Rattle.dfdl_bits.specs.Window.{Held};
+ghost use Rattle.dfdl_surroundings.specs.Answers.{lengths_of};
 ghost use Rattle.dfdl_grammar.specs.Marks.{back, back_to, closed, content_of, mark_at};
+ghost use Rattle.dfdl_grammar.specs.Representations.{is_occurrence, representations_in};
 ghost use Rattle.dfdl_looks.specs.Tallies.{Tally, nothing};
 ghost use Rattle.dfdl_parse.specs.Moves.{pass};
 ghost use Rattle.dfdl_parse.specs.Opens.{IsBefore};
-ghost use Rattle.dfdl_parse.specs.Trials.{attempt, enter_element, is_refused, parts_of, refused, retry, trial_done, try_empty, try_nil, try_normal};
+ghost use Rattle.dfdl_parse.specs.Trials.{attempt, enter_element, is_refused, parts_here, parts_of, refused, retry, trial_done, try_empty, try_nil, try_normal};
 ghost use Rattle.dfdl_parse.specs.Steps.{IsFree, Moved};
 ghost use Rattle.dfdl_parse.specs.Shown.{Becomes, HasSameLimits, state_of};
 
 use crate::frame::{Focus, Frame, Next, Parts};
 use crate::parser::Parser;
 use dfdl_grammar::{End, Instead, Mark};
-use dfdl_region::{Content, Node};
+use dfdl_region::{Content, Lengths, Node};
 use dfdl_report::{LimitCause, ParseCause};
-use dfdl_terms::{Row, RowId, Terms};
+use dfdl_terms::{Representations, Row, RowId, Terms};
 use std::alloc::AllocError;
 
 impl Parser {
@@ -40,6 +42,7 @@ impl Parser {
         }) }
     {
         let content = self.content();
+        let lengths = self.lengths();
         self.marks.push(Mark {
             at: self.at,
             is_point,
@@ -50,6 +53,7 @@ impl Parser {
             text: self.text.count(),
             inside: self.inside,
             content,
+            lengths,
             variables: self.variables.mark(),
         })?;
         Ok(())
@@ -62,6 +66,16 @@ impl Parser {
         match self.region.nodes().get(self.inside as usize) {
             Some(node) => node.content,
             None => Content::Begun,
+        }
+    }
+
+    // How long the innermost open element is, as far as that is known.
+    fn lengths(&self) -> Option<Lengths>
+        ensures { result ≡ lengths_of (slice_get self.now.region.nodes self.now.inside) }
+    {
+        match self.region.nodes().get(self.inside as usize) {
+            Some(node) => node.lengths,
+            None => None,
         }
     }
 
@@ -110,12 +124,16 @@ impl Parser {
         next: Next,
     ) -> Result<(), AllocError>
         ensures moved { (held : Held) (cost : Tally) → IsFree cost → OnOk result (Moved
-            (attempt cost self.old.region.most held id parts instead (Frame.Trial id next ∷ self.old.stack) (state_of self.old))
+            (attempt cost self.old.region.most held id parts instead (Frame.Trial id parts.occurrence next ∷ self.old.stack) (state_of self.old))
             false self.old.far self.new held 0) }
         ensures most { OnOk result (HasSameLimits self.old self.new) }
         ensures at { OnOk result (self.new.at ≡ self.old.at) }
     {
-        self.stack.push(Frame::Trial { element: id, next })?;
+        self.stack.push(Frame::Trial {
+            element: id,
+            occurrence: parts.occurrence,
+            next,
+        })?;
         self.attempt(id, parts, instead)
     }
 
@@ -131,6 +149,7 @@ impl Parser {
             element: id,
             parent: outer,
             content: Content::Begun,
+            lengths: None,
         };
         match self.region.add(node) {
             Ok(number) => {
@@ -259,6 +278,7 @@ impl Parser {
         self.stop = mark.stop;
         self.region.undo_to(mark.nodes);
         self.region.set_content(mark.inside, mark.content);
+        self.region.set_lengths(mark.inside, mark.lengths);
         self.text.undo_to(mark.text);
         self.inside = mark.inside;
         self.variables.undo_to(mark.variables);
@@ -279,9 +299,55 @@ fn is_refused(parts: Option<Parts>, next: Next) -> bool
     }
 }
 
-/// What the row of an element says of it, if a row is one.
-pub(crate) fn parts_of(terms: &Terms, id: RowId) -> Option<Parts>
-    ensures { result ≡ parts_of (slice_get terms.now.rows id) }
+/// What the row of an element says of it that begins where content is read by this.
+pub(crate) fn parts_here(
+    instead: Instead,
+    complex: bool,
+    tried: Representations,
+    body: RowId,
+) -> Parts
+    ensures { result ≡ parts_here instead complex tried body }
+{
+    let occurrence = is_occurrence(instead);
+    Parts {
+        complex,
+        tried: representations_in(occurrence, tried),
+        body,
+        occurrence,
+    }
+}
+
+// Whether the element that begins next is an occurrence that is tried.
+fn is_occurrence(instead: Instead) -> bool
+    ensures { result ≡ is_occurrence instead }
+{
+    match instead {
+        Instead::Nothing => false,
+        Instead::Nil(_) => false,
+        Instead::Empty(_) => false,
+        Instead::Tried => true,
+    }
+}
+
+// The representations of an element, or of an occurrence of it that is tried, which never takes a default.
+fn representations_in(occurrence: bool, tried: Representations) -> Representations
+    ensures { result ≡ representations_in occurrence tried }
+{
+    if !occurrence {
+        return tried;
+    }
+    Representations {
+        nil: tried.nil,
+        empty: tried.where_tried.empty,
+        refuses_empty: tried.where_tried.refuses_empty,
+        are_several: tried.where_tried.are_several,
+        where_tried: tried.where_tried,
+    }
+}
+
+/// What the row of an element says of it, or of an occurrence of it that is tried, if a row is one.
+pub(crate) fn parts_of(terms: &Terms, id: RowId, occurrence: bool) -> Option<Parts>
+    ensures { result ≡ parts_of occurrence (slice_get terms.now.rows id) }
 {
     if id.number() >= terms.rows() {
         return None;
@@ -294,8 +360,9 @@ pub(crate) fn parts_of(terms: &Terms, id: RowId) -> Option<Parts>
             ..
         } => Some(Parts {
             complex: simple.is_none(),
-            tried: *tried,
+            tried: representations_in(occurrence, *tried),
             body: *body,
+            occurrence,
         }),
         Row::Leaf { .. } => None,
         Row::Group { .. } => None,
@@ -318,6 +385,8 @@ pub(crate) fn parts_of(terms: &Terms, id: RowId) -> Option<Parts>
         Row::Statement { .. } => None,
         Row::Concluded { .. } => None,
         Row::Hidden { .. } => None,
+        Row::Spanned { .. } => None,
+        Row::Instance { .. } => None,
         Row::Separated { .. } => None,
     }
 }

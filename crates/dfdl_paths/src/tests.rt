@@ -17,6 +17,7 @@ fn node(element: u32, parent: u32, content: Content) -> Node {
         element: RowId::new(element),
         parent,
         content,
+        lengths: None,
     }
 }
 

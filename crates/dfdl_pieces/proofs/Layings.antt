@@ -8,12 +8,12 @@ use Rattle.dfdl_terms.specs.Rows.{Table}
 use Rattle.dfdl_terms.specs.declared.delimiters.Delimiter.{Delimiter}
 use Rattle.dfdl_terms.specs.declared.prefix.Prefix.{Prefix}
 use Rattle.dfdl_terms.specs.declared.row.Row.{Row}
-use Rattle.dfdl_terms.specs.declared.row.Row.TheVariants.{Leaf, Elem, Group, Skip, Align, Initiator, Terminator, Separator, Scope, Boxed, PrefixedLeaf, PrefixedBox, Repeat, Optional, Choice}
+use Rattle.dfdl_terms.specs.declared.row.Row.TheVariants.{Leaf, Elem, Group, Skip, Align, Initiator, Terminator, Separator, Scope, Boxed, PrefixedLeaf, PrefixedBox, Repeat, Optional, Choice, Spanned}
 use Rattle.dfdl_json.specs.ByRows.{below}
 use Rattle.dfdl_json.specs.Paths.{Names}
 use Rattle.dfdl_json.specs.Steps.{steps_of, total}
 use Rattle.dfdl_json.proofs.RowValues.{row_is, below_is}
-use Rattle.dfdl_json.proofs.Declares.{elem_steps, group_steps, repeat_steps}
+use Rattle.dfdl_json.proofs.Declares.{elem_steps, group_steps, repeat_steps, spanned_steps}
 use Rattle.dfdl_json.proofs.Below.{some_steps}
 use Rattle.dfdl_pieces.specs.Laying.{Laying, Takes, begins, begun_laying, form_at, in_turn, laying, laying_by, value_for, value_laying}
 use Rattle.dfdl_pieces.specs.Unparsing.{left, steps_left}
@@ -83,6 +83,11 @@ module _ (t : Table) (row : ℕ) (around : Names) (more : Laying) where
       ap (λ (h : Names → Laying → Laying). h around more)
       (row_is (laying_by t) (λ a m. m) t.rows row (Some (Repeat count body)) is ∙ below_is (laying_by t) (λ a m. m) t.rows row body less)
 
+  pub laid_spanned : (body : ℕ) → slice_get t.rows row ≡ Some (Spanned body) → body < row → laying t row around more ≡ in_turn (laying t) (body ∷ []) around more
+  laid_spanned body is less =
+      ap (λ (h : Names → Laying → Laying). h around more)
+      (row_is (laying_by t) (λ a m. m) t.rows row (Some (Spanned body)) is ∙ below_is (laying_by t) (λ a m. m) t.rows row body less)
+
   pub laid_optional : (most : ℕ) (item initiated : Bool) (body : ℕ) → slice_get t.rows row ≡ Some (Optional most item initiated body)
       → laying t row around more ≡ more
   laid_optional most item initiated body is =
@@ -121,6 +126,10 @@ module _ (t : Table) (row : ℕ) (tasks now : List Task) where
   pub repeat_less : (count body : ℕ) → slice_get t.rows row ≡ Some (Repeat count body) → body < row → now ≡ map Lay (body ∷ []) ++ tasks
       → steps_left t now < steps_of t row + steps_left t tasks
   repeat_less count body is less are = rw are (omega (arith, repeat_steps t row count body is less))
+
+  pub spanned_less : (body : ℕ) → slice_get t.rows row ≡ Some (Spanned body) → body < row → now ≡ map Lay (body ∷ []) ++ tasks
+      → steps_left t now < steps_of t row + steps_left t tasks
+  spanned_less body is less are = rw are (omega (arith, spanned_steps t row body is less))
 
   pub complex_less : (name : List ℕ) (tried : Representations) (behind : Statements) (body : ℕ) → slice_get t.rows row ≡ Some (Elem name None tried behind body) → body < row
       → steps_left t now < 2 + steps_of t body + steps_left t tasks → steps_left t now < steps_of t row + steps_left t tasks

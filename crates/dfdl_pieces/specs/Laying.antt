@@ -8,7 +8,7 @@ use Rattle.dfdl_terms.specs.declared.event.Event.TheVariants.{Start, Simple, Nil
 use Rattle.dfdl_terms.specs.declared.row.Primitive.{Primitive}
 use Rattle.dfdl_terms.specs.declared.row.Primitive.TheVariants.{Integer, Packed, Truth, Octets, Text, NilOctets, Default, NilValues, Pattern}
 use Rattle.dfdl_terms.specs.declared.row.Row.{Row}
-use Rattle.dfdl_terms.specs.declared.row.Row.TheVariants.{Leaf, Elem, Group, Skip, Align, Initiator, Terminator, Separator, Scope, Boxed, PrefixedLeaf, PrefixedBox, MeasuredLeaf, MeasuredBox, Repeat, Counted, Optional, Choice, Dispatch, Statement, Concluded, Hidden, Separated}
+use Rattle.dfdl_terms.specs.declared.row.Row.TheVariants.{Leaf, Elem, Group, Skip, Align, Initiator, Terminator, Separator, Scope, Boxed, PrefixedLeaf, PrefixedBox, MeasuredLeaf, MeasuredBox, Repeat, Counted, Optional, Choice, Dispatch, Statement, Concluded, Hidden, Spanned, Instance, Separated}
 use Rattle.dfdl_terms.specs.Rows.{Table}
 use Rattle.dfdl_json.specs.ByRows.{by_rows}
 use Rattle.dfdl_json.specs.Children.{root_row}
@@ -63,6 +63,8 @@ form_in t (Some (Dispatch question keys)) = None
 form_in t (Some (Statement statement)) = None
 form_in t (Some (Concluded behind body)) = None
 form_in t (Some (Hidden body)) = None
+form_in t (Some (Spanned body)) = None
+form_in t (Some (Instance statement body)) = None
 form_in t (Some (Separated policy position initiated slots)) = None
 form_in t None = None
 
@@ -133,6 +135,8 @@ laying_by t inside row (Some (Dispatch question keys)) around more = more
 laying_by t inside row (Some (Statement statement)) around more = more
 laying_by t inside row (Some (Concluded behind body)) around more = more
 laying_by t inside row (Some (Hidden body)) around more = more
+laying_by t inside row (Some (Spanned body)) around more = inside body around more
+laying_by t inside row (Some (Instance statement body)) around more = more
 laying_by t inside row (Some (Separated policy position initiated slots)) around more = more
 laying_by t inside row None around more = more
 

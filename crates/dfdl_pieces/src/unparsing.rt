@@ -188,6 +188,8 @@ impl<'t> Unparser<'t> {
             Some(Row::Statement { .. }) => Ok(None),
             Some(Row::Concluded { .. }) => Ok(None),
             Some(Row::Hidden { .. }) => Ok(None),
+            Some(Row::Spanned { body }) => self.lay_group(&[*body]),
+            Some(Row::Instance { .. }) => Ok(None),
             Some(Row::Separated { .. }) => Ok(None),
             None => Ok(None),
         }

@@ -11,6 +11,6 @@ mod tests;
 mod text;
 
 pub use dfdl_terms::RowId;
-pub use node::{Content, Node};
+pub use node::{Content, Lengths, Node};
 pub use region::{Full, NodeRegion};
 pub use text::TextRegion;

@@ -24,6 +24,15 @@ pub enum Content {
     Octets { from: u32, len: u32 },
 }
 
+/// How long an element is, in bits ('DFDL Expression Language', on lengths).
+#[derive(Debug, Clone, Copy, PartialEq, Eq)]
+pub struct Lengths {
+    /// The box of its content, or what the content moved over where it has none.
+    pub content: u64,
+    /// What its value takes of that: without what is trimmed, escape characters, and the rest of a box.
+    pub value: u64,
+}
+
 /// One element of the infoset.
 #[derive(Debug, Clone, Copy, PartialEq, Eq)]
 pub struct Node {
@@ -32,4 +41,6 @@ pub struct Node {
     /// the number of the element that it stands in; the root's is its own, 0
     pub parent: u32,
     pub content: Content,
+    /// from the end of its content on
+    pub lengths: Option<Lengths>,
 }

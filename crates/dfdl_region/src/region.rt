@@ -1,8 +1,8 @@
 // The nodes of one document.
 ghost use Rattle.std.specs.Prelude.{◌≡◌, ◌<◌, ◌≤◌, ◌↔◌, ◌++◌, ◌∷◌, [], vec_capacity, Some, length, slice_get, take, IfOk, IsErr, OnErr};
-ghost use Rattle.dfdl_region.specs.Nodes.{with_node, with_content};
+ghost use Rattle.dfdl_region.specs.Nodes.{with_node, with_content, with_lengths};
 
-use crate::node::{Content, Node};
+use crate::node::{Content, Lengths, Node};
 use dfdl_terms::RowId;
 use std::alloc::{AllocError, Global};
 use std::marker::Model;
@@ -54,7 +54,13 @@ impl NodeRegion {
         if number >= self.most {
             return Err(Full);
         }
-        put(&mut self.nodes, node.element, node.parent, node.content);
+        put(
+            &mut self.nodes,
+            node.element,
+            node.parent,
+            node.content,
+            node.lengths,
+        );
         Ok(number)
     }
 
@@ -81,6 +87,23 @@ impl NodeRegion {
     {
         let node = &mut self.nodes[number as usize];
         node.content = content;
+    }
+
+    /// Tells how long the element of the node of this number is. Nothing changes where there is none.
+    pub fn set_lengths(&mut self, number: u32, lengths: Option<Lengths>)
+        ensures { self.new ≡ record self.old { nodes = with_lengths self.old.nodes number lengths } }
+    {
+        if self.count() > number {
+            self.put_lengths(number, lengths);
+        }
+    }
+
+    fn put_lengths(&mut self, number: u32, lengths: Option<Lengths>)
+        requires { number < length self.old.nodes }
+        ensures { self.new ≡ record self.old { nodes = with_lengths self.old.nodes number lengths } }
+    {
+        let node = &mut self.nodes[number as usize];
+        node.lengths = lengths;
     }
 
     /// How many nodes there are.
@@ -121,15 +144,22 @@ impl NodeRegion {
 }
 
 // Puts a node behind those of a list that has room for it.
-fn put(nodes: &mut Vec<Node>, element: RowId, parent: u32, content: Content)
+fn put(
+    nodes: &mut Vec<Node>,
+    element: RowId,
+    parent: u32,
+    content: Content,
+    lengths: Option<Lengths>,
+)
     requires { length nodes.old.items < vec_capacity nodes.old }
-    ensures items { nodes.new.items ≡ nodes.old.items ++ record { element = element; parent = parent; content = content } ∷ [] }
+    ensures items { nodes.new.items ≡ nodes.old.items ++ record { element = element; parent = parent; content = content; lengths = lengths } ∷ [] }
     ensures capacity { vec_capacity nodes.old ≤ vec_capacity nodes.new }
 {
     let node = Node {
         element,
         parent,
         content,
+        lengths,
     };
     match nodes.push(node) {
         Ok(()) => (),

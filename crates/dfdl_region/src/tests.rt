@@ -9,11 +9,13 @@ fn nodes_are_added_and_read(rt: HostRuntime) -> Result<(), Fail> {
         element: RowId::new(4),
         parent: 0,
         content: Content::Begun,
+        lengths: None,
     };
     let child = Node {
         element: RowId::new(1),
         parent: 0,
         content: Content::Unsigned(7),
+        lengths: None,
     };
     assert_eq!(rt; (region.count(), region.most()), (0, 2));
     assert_eq!(rt; region.add(root), Ok(0));
@@ -26,6 +28,13 @@ fn nodes_are_added_and_read(rt: HostRuntime) -> Result<(), Fail> {
     assert_eq!(rt; region.get(0).content, Content::Signed(-2));
     region.set_content(1, Content::Truth(true));
     assert_eq!(rt; region.get(1).content, Content::Truth(true));
+    let known = Some(Lengths {
+        content: 16,
+        value: 8,
+    });
+    region.set_lengths(1, known);
+    assert_eq!(rt; region.get(1).lengths, known);
+    region.set_lengths(1, None);
     region.set_content(1, child.content);
     assert_eq!(rt; region.nodes()[1], child);
     region.undo_to(2);

@@ -150,7 +150,7 @@ inside_first s order is c within element none =
     first_at : (component : Component) (place : Place) → is_element component ≡ true
         → refusal_in (at_component component place (map (look_at s) (uses_of s.uses c)) []) ≡ refusal_behind s (uses_of s.uses c) []
     first_at (Sequence framing separated initiated) place is_one = absurd (cc)
-    first_at (Choice framing initiated) place is_one = absurd (cc)
+    first_at (Choice framing initiated dispatch) place is_one = absurd (cc)
     first_at (ComplexElement name framing box occurs often) place is_one = first_inside (in_order (map (look_at s) (uses_of s.uses c)) []) name
     first_at (SimpleElement name simple prim framing own_length tried scanned occurs often) place is_one = first_inside (in_order (map (look_at s) (uses_of s.uses c)) []) name
     first_at (CalculatedElement name simple statement framing) place is_one = first_inside (in_order (map (look_at s) (uses_of s.uses c)) []) name

@@ -89,14 +89,16 @@ module _ (P : Row → Type 0) (skips : (bits : ℕ) → P (Skip bits)) (aligns :
       All-cons P (Statement first) (statements_from (first + 1) count) (holds first (omega arith))
       (statements_all (first + 1) count (λ statement less. holds statement (omega (arith, less))))
 
-  module _ (f : Framing) (separators : Option ℕ) (statements : (statement : ℕ) → statement < f.before.first + f.before.count → P (Statement statement))
+  module _ (f : Framing) (separators : Option ℕ) (tests : (statement : ℕ) → statement < f.before.first + f.before.count → P (Statement statement))
+      (settings : (statement : ℕ) → statement < f.settings.first + f.settings.count → P (Statement statement))
       (initiators : (own : Delimiter) → f.initiator ≡ Some own → P (Initiator own))
       (terminators : (own : Delimiter) → f.terminator ≡ Some own → P (Terminator own separators)) where
     pub before_all : All P (rows_before f)
     before_all =
-        All-append P (statement_rows f.before) (fill_rows f) (statements_all f.before.first f.before.count statements)
+        All-append P (statement_rows f.before) (statement_rows f.settings ++ fill_rows f) (statements_all f.before.first f.before.count tests)
+        (All-append P (statement_rows f.settings) (fill_rows f) (statements_all f.settings.first f.settings.count settings)
         (All-append P (skip_rows f.leading_skip) (align_rows f.alignment ++ initiator_rows f.initiator) (skip_all f.leading_skip)
-        (All-append P (align_rows f.alignment) (initiator_rows f.initiator) (align_all f.alignment) (initiator_all f.initiator initiators)))
+        (All-append P (align_rows f.alignment) (initiator_rows f.initiator) (align_all f.alignment) (initiator_all f.initiator initiators))))
 
     pub behind_all : All P (rows_behind f separators)
     behind_all = All-append P (terminator_rows f.terminator separators) (skip_rows f.trailing_skip) (terminator_all f.terminator separators terminators) (skip_all f.trailing_skip)

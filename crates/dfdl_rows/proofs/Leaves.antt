@@ -10,7 +10,7 @@ use Rattle.dfdl_terms.specs.Leaves.{ReadsBy, leaf, prefixed, measured, calculate
 use Rattle.dfdl_terms.specs.declared.framing.Framing.{Framing}
 use Rattle.dfdl_terms.specs.declared.occurs.Occurs.{Occurs}
 use Rattle.dfdl_terms.specs.declared.row.Row.{Row}
-use Rattle.dfdl_terms.specs.declared.row.Row.TheVariants.{Elem, Scope, Statement, Concluded, Hidden as HiddenRow}
+use Rattle.dfdl_terms.specs.declared.row.Row.TheVariants.{Elem, Scope, Statement, Hidden as HiddenRow}
 use Rattle.dfdl_terms.specs.declared.statement.Statements.{Statements}
 use Rattle.dfdl_terms.specs.Framing.{no_fill}
 use Rattle.dfdl_rows.specs.Components.{Schema, component_at, no_trials, slots_at, AreOfOne, HasOrder, IsBareComponent}
@@ -19,16 +19,15 @@ use Rattle.dfdl_rows.specs.declared.component.LeafLength.{LeafLength}
 use Rattle.dfdl_rows.specs.declared.component.LeafLength.TheVariants as leaf_length
 use Rattle.dfdl_rows.specs.declared.component.Component.{Component}
 use Rattle.dfdl_rows.specs.declared.component.Component.TheVariants.{Sequence, Choice, ComplexElement, SimpleElement, CalculatedElement, Hidden}
-use Rattle.dfdl_rows.specs.Framing.{framed, framed_row}
+use Rattle.dfdl_rows.specs.Framing.{framed, framed_row, opened}
 use Rattle.dfdl_rows.specs.Scopes.{list_of, scanned_list, scope_rows, scoped_row, scope_size}
-use Rattle.dfdl_rows.specs.Slots.{grouped, separator_list, slots_size}
+use Rattle.dfdl_rows.specs.Slots.{Kind, InOrder, OneTried, OneByKey, grouped, kind_by, row_of, separator_list, slots_size}
 use Rattle.dfdl_rows.specs.declared.component.Separated.{Separated}
 use Rattle.dfdl_rows.specs.declared.times.Times.{Times}
-use Rattle.dfdl_rows.specs.declared.slots.Grouping.{Grouping}
-use Rattle.dfdl_rows.specs.declared.slots.Grouping.TheVariants as grouping
 use Rattle.dfdl_rows.specs.RowLists.{Numbered, leaf_row, boxed_rows, element_rows, scoped, sequence_rows, around_rows, group_rows, own_rows, in_turn, last_rows, rows_at, rows_of}
 use Rattle.dfdl_rows.specs.Leaves.{IsAmong, IsCalculated, IsLeafOf, HaveLeaves, HaveBareLeaves}
 use Rattle.dfdl_rows.proofs.Framed.{unframed_row, framed_all}
+use Rattle.dfdl_rows.proofs.Opened.{opened_all}
 use Rattle.dfdl_rows.proofs.Boxed.{leaf_holds, boxed_all}
 use Rattle.dfdl_rows.proofs.Scoped.{none_scanned, scoped_all}
 use Rattle.dfdl_rows.proofs.Grouped.{grouped_all}
@@ -61,8 +60,20 @@ only_last (row ∷ rows) last (suc i) name simple tried behind body all is = onl
 
 framed_not_simple : (f : Framing) (separators : Option ℕ) (content first : ℕ) → All IsNotSimple (framed f separators content first)
 framed_not_simple f separators content first = framed_all IsNotSimple (λ bits name simple tried behind body is. absurd (cc)) (λ bits name simple tried behind body is. absurd (cc))
-    f separators (λ statement less name simple tried behind body is. absurd (cc)) (λ own there name simple tried behind body is. absurd (cc)) (λ own there name simple tried behind body is. absurd (cc))
+    f separators (λ statement less name simple tried behind body is. absurd (cc)) (λ statement less name simple tried behind body is. absurd (cc))
+    (λ own there name simple tried behind body is. absurd (cc)) (λ own there name simple tried behind body is. absurd (cc))
     (λ children name simple tried behind body is. absurd (cc)) content first
+
+opened_not_simple : (f : Framing) (separators : Option ℕ) (content first : ℕ) → All IsNotSimple (opened f separators content first)
+opened_not_simple f separators = opened_all IsNotSimple (λ bits name simple tried behind body is. absurd (cc)) (λ bits name simple tried behind body is. absurd (cc))
+    f separators (λ statement less name simple tried behind body is. absurd (cc)) (λ statement own less name simple tried behind body is. absurd (cc))
+    (λ statement less name simple tried behind body is. absurd (cc)) (λ own there name simple tried behind body is. absurd (cc))
+    (λ own there name simple tried behind body is. absurd (cc)) (λ children name simple tried behind body is. absurd (cc))
+
+row_not_simple : (kind : Kind) (initiated : Bool) (children : List ℕ) → IsNotSimple (row_of kind initiated children)
+row_not_simple InOrder initiated children name simple tried behind body is = absurd (cc)
+row_not_simple OneTried initiated children name simple tried behind body is = absurd (cc)
+row_not_simple (OneByKey dispatch) initiated children name simple tried behind body is = absurd (cc)
 
 scoped_not_simple : (list : Option ℕ) (around : ℕ → ℕ → List Row) → ((content first : ℕ) → All IsNotSimple (around content first))
     → (content first : ℕ) → All IsNotSimple (scoped list around content first)
@@ -70,8 +81,8 @@ scoped_not_simple list around = scoped_all IsNotSimple list around (λ own row t
 
 sequence_not_simple : (f : Framing) (separators : Option ℕ) (content first : ℕ) → All IsNotSimple (sequence_rows f separators content first)
 sequence_not_simple f separators =
-    scoped_not_simple separators (scoped (list_of f.terminator) (framed f separators))
-    (scoped_not_simple (list_of f.terminator) (framed f separators) (framed_not_simple f separators))
+    scoped_not_simple separators (scoped (list_of f.terminator) (opened f separators))
+    (scoped_not_simple (list_of f.terminator) (opened f separators) (opened_not_simple f separators))
 
 leaf_not_simple : (own_length : LeafLength) (prim : ℕ) → IsNotSimple (leaf_row own_length prim)
 leaf_not_simple own_length prim =
@@ -137,7 +148,7 @@ module _ (components : List Component) (all : List Row) (Q : Simple → ℕ → 
       bodies_append first (f p first) (in_turn (map f ps) (first + length (f p first))) (each 0 p (omega arith) first)
       (turn_bodies f ps (All-tail (λ (q : ℕ). HasBodies (f q)) p ps each) (first + length (f p first)))
 
-  group_bodies : (kind : Grouping) (f : Framing) (separated : Option Separated) (initiated : Bool) (slots : List Times) (lasts : List ℕ) (first : ℕ)
+  group_bodies : (kind : Kind) (f : Framing) (separated : Option Separated) (initiated : Bool) (slots : List Times) (lasts : List ℕ) (first : ℕ)
       → BodiesFrom first (group_rows kind f separated initiated slots lasts first)
   group_bodies kind f separated initiated slots lasts first =
       let size : ℕ = slots_size separated slots in
@@ -146,21 +157,23 @@ module _ (components : List Component) (all : List Row) (Q : Simple → ℕ → 
       bodies_none first (group_rows kind f separated initiated slots lasts first)
       (concluded_all IsNotSimple f.behind (around_rows kind f separated initiated slots lasts first) first
       (All-append IsNotSimple own others
-      (grouped_all IsNotSimple (λ children name simple tried behind body is. absurd (cc)) (λ branches told name simple tried behind body is. absurd (cc))
+      (grouped_all IsNotSimple (λ children name simple tried behind body is. absurd (cc))
       (λ name simple tried behind body is. absurd (cc)) (λ count body name simple tried behind other is. absurd (cc))
-      (λ most item told body name simple tried behind other is. absurd (cc)) (λ policy position told all name simple tried behind other is. absurd (cc))
-      kind initiated separated slots (λ k n less question body has name simple tried behind other is. absurd (cc)) lasts first)
+      (λ most item told body name simple tried behind other is. absurd (cc))
+      kind initiated (row_not_simple kind initiated) separated slots (λ k n less question body has name simple tried behind other is. absurd (cc)) lasts first
+      (λ policy position name simple tried behind other is. absurd (cc)))
       (sequence_not_simple f (separator_list separated) (first + size) (first + size + 1)))
       (λ row some name simple tried behind body is. absurd (cc)))
 
   own_bodies : (component : Component) (slots : List Times) (lasts : List ℕ) (first number : ℕ) → slice_get components number ≡ Some component
       → BodiesFrom first (own_rows component slots lasts first)
-  own_bodies (Sequence f separated initiated) slots lasts first number there = group_bodies grouping.Sequence f separated initiated slots lasts first
-  own_bodies (Choice f initiated) slots lasts first number there = group_bodies grouping.Choice f None initiated slots lasts first
+  own_bodies (Sequence f separated initiated) slots lasts first number there = group_bodies InOrder f separated initiated slots lasts first
+  own_bodies (Choice f initiated dispatch) slots lasts first number there = group_bodies (kind_by dispatch) f None initiated slots lasts first
   own_bodies (ComplexElement own f box occurs often) slots lasts first number there =
       bodies_none first (scoped (list_of f.terminator) (boxed_rows own f box) (get_or lasts 0 0) first)
       (scoped_not_simple (list_of f.terminator) (boxed_rows own f box)
-      (boxed_all IsNotSimple own f box (λ bits row name simple tried behind body is. absurd (cc)) (λ prefix row there name simple tried behind body is. absurd (cc))
+      (boxed_all IsNotSimple own f box (λ row there name simple tried behind body is. absurd (cc)) (λ bits row there name simple tried behind body is. absurd (cc))
+      (λ prefix row there name simple tried behind body is. absurd (cc))
       (λ measure row there name simple tried behind body is. absurd (cc))
       (framed_not_simple f None) (λ row name simple tried behind body is. absurd (cc)))
       (get_or lasts 0 0) first)

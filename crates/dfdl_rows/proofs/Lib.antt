@@ -1,5 +1,6 @@
 mod Parts
 mod Framed
+mod Opened
 mod Scoped
 mod Boxed
 mod Pushed

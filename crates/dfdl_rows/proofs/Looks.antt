@@ -59,7 +59,7 @@ module _ (s : Schema) (order : Places) (is : IsOrder s.uses order) where
       → (b ≡ true → in_order parts names ≡ Behind []) → (b ≡ true → in_branches parts names ≡ Behind [])
       → unless_refused own (at_component component place parts) names ≡ Behind []
   idle_at None (Sequence framing separated initiated) place parts b names are order_is branches_are = order_is are
-  idle_at None (Choice framing initiated) place parts b names are order_is branches_are = branches_are are
+  idle_at None (Choice framing initiated dispatch) place parts b names are order_is branches_are = branches_are are
   idle_at None Hidden place parts b names are order_is branches_are = order_is are
   idle_at None (ComplexElement name framing box occurs often) place parts b names are order_is branches_are = absurd (cc)
   idle_at None (SimpleElement name simple prim framing own_length tried scanned occurs often) place parts b names are order_is branches_are = absurd (cc)

@@ -10,14 +10,13 @@ use Rattle.dfdl_terms.specs.Tables.{Named}
 use Rattle.dfdl_terms.specs.declared.framing.Framing.{Framing}
 use Rattle.dfdl_terms.specs.declared.occurs.Occurs.{Occurs}
 use Rattle.dfdl_terms.specs.declared.row.Row.{Row}
-use Rattle.dfdl_terms.specs.declared.row.Row.TheVariants.{Elem, Group, Scope, Boxed, PrefixedBox, MeasuredBox, Statement, Hidden as HiddenRow}
+use Rattle.dfdl_terms.specs.declared.row.Row.TheVariants.{Elem, Group, Scope, Spanned, Statement, Hidden as HiddenRow}
+use Rattle.dfdl_terms.specs.declared.slots.Slot.{Slot}
 use Rattle.dfdl_terms.specs.declared.statement.Statements.{Statements}
-use Rattle.dfdl_terms.specs.Rows.{ChildrenBelow, Nests, NamesWithin, IsPlainRow, IsWithin, AreStatements, HasPlainRows}
+use Rattle.dfdl_terms.specs.Rows.{ChildrenBelow, Nests, NamesWithin, IsPlainRow, IsWithin, HasPlainRows}
 use Rattle.dfdl_terms.specs.Framing.{no_fill}
-use Rattle.dfdl_rows.specs.Components.{Schema, component_at, slots_at, CanHave, AreOfOne, HasOrder, HasPrimitive, HasBoxPrimitive, HasBoxQuestion, HasPrefixPrimitive, HasLeafQuestion, HasList, HasSeparators, HasDelimiters, HasStatements, IsBareComponent, no_trials, occurs_in, question_in}
-use Rattle.dfdl_rows.specs.Slots.{grouped, laid_of, separator_list, slots_of, slots_of_group, slots_size}
-use Rattle.dfdl_rows.specs.declared.slots.Grouping.{Grouping}
-use Rattle.dfdl_rows.specs.declared.slots.Grouping.TheVariants as grouping
+use Rattle.dfdl_rows.specs.Components.{Schema, component_at, slots_at, CanHave, AreOfOne, HasOrder, HasPrimitive, HasBoxPrimitive, HasBoxQuestion, HasPrefixPrimitive, HasLeafQuestion, HasList, HasSeparators, HasDelimiters, HasFramingStatements, HasStatements, IsBareComponent, no_trials, occurs_in, question_in}
+use Rattle.dfdl_rows.specs.Slots.{Kind, InOrder, OneTried, OneByKey, grouped, laid_of, row_of, separator_list, slots_of, slots_of_group, slots_size}
 use Rattle.dfdl_rows.specs.declared.component.Separated.{Separated}
 use Rattle.dfdl_rows.specs.declared.times.Times.{Times}
 use Rattle.dfdl_rows.specs.declared.component.Component.{Component}
@@ -26,19 +25,20 @@ use Rattle.dfdl_rows.specs.declared.component.ContentBox.{ContentBox}
 use Rattle.dfdl_rows.specs.declared.component.ContentBox.TheVariants.{Unbounded, Sized, Prefixed, Measured}
 use Rattle.dfdl_rows.specs.declared.component.Counted.{Counted}
 use Rattle.dfdl_rows.specs.declared.component.Counted.TheVariants.{ByBounds, Parsed, Told}
-use Rattle.dfdl_rows.specs.Boxes.{box_rows, boxed_row, box_size}
+use Rattle.dfdl_rows.specs.Boxes.{box_row}
 use Rattle.dfdl_rows.specs.Times.{question_of, times_of}
 use Rattle.dfdl_rows.specs.RowLists.{Numbered, leaf_row, element_rows, boxed_rows, scoped, sequence_rows, around_rows, group_rows, own_rows, in_turn, last_rows, rows_at, rows_of}
 use Rattle.dfdl_rows.specs.Answers.{EndsWith}
 use Rattle.dfdl_rows.specs.Scopes.{list_of, scanned_list, scope_rows, scoped_row, scope_size}
-use Rattle.dfdl_rows.specs.Framing.{has_framing, rows_before, rows_behind, numbers, in_group, framed, framed_row}
+use Rattle.dfdl_rows.specs.Framing.{has_framing, rows_before, rows_behind, numbers, in_group, framed, framed_row, framing_size, instance_rows, opened, opened_row, tests_alone, untested}
 use Rattle.dfdl_rows.proofs.Framed.{framed_cases, unframed, length_framed, framed_end, framed_below, before_all, behind_all, framed_all}
-use Rattle.dfdl_rows.proofs.Boxed.{length_box, box_end, box_below, leaf_holds, element_all, boxed_all}
+use Rattle.dfdl_rows.proofs.Opened.{instances_nest, length_instances, opened_all, opened_cases, outermost_below, unopened}
+use Rattle.dfdl_rows.proofs.Boxed.{leaf_holds, element_all, boxed_all}
 use Rattle.dfdl_rows.proofs.Scoped.{length_scope, scope_end, scope_below, scoped_all, no_terminator, none_scanned, listed, scanned_holds}
 use Rattle.dfdl_rows.proofs.Nests.{NestsFrom, nests_none, nests_cons, nests_append}
-use Rattle.dfdl_rows.proofs.Slotted.{HoldsCounted, IsSingle}
-use Rattle.dfdl_rows.proofs.Grouped.{grouped_all, grouped_nests, length_grouped, none_grouped}
-use Rattle.dfdl_rows.proofs.Parts.{by_parts, parts_within}
+use Rattle.dfdl_rows.proofs.Slotted.{HoldsCounted, IsSingle, length_children}
+use Rattle.dfdl_rows.proofs.Grouped.{LeadsWithin, grouped_all, grouped_nests, length_grouped, none_grouped, slots_hold}
+use Rattle.dfdl_rows.proofs.Parts.{by_parts}
 use Rattle.dfdl_rows.proofs.Concluded.{concluded_all, concluded_nests, unconcluded}
 use Rattle.dfdl_rows.proofs.RowsOf.{rows_step, length_around, length_rows, length_lasts, some_rows}
 
@@ -89,11 +89,32 @@ module _ (f : Framing) (separators : Option ℕ) (content first : ℕ) (low : co
   nests_framed = framed_cases f separators content first (λ rows whole size. NestsFrom first rows) (λ none. nests_none first)
       (λ some.
       nests_append (rows_before f) (rows_behind f separators ++ Group (in_group f separators content first) ∷ []) first
-      (nests_flat (rows_before f) first (before_all (λ row. (n : ℕ) → ChildrenBelow n row) (λ bits n. tt) (λ bits n. tt) f separators (λ statement less n. tt) (λ own is n. tt) (λ own is n. tt)))
+      (nests_flat (rows_before f) first (before_all (λ row. (n : ℕ) → ChildrenBelow n row) (λ bits n. tt) (λ bits n. tt) f separators (λ statement less n. tt) (λ statement less n. tt) (λ own is n. tt) (λ own is n. tt)))
       (nests_append (rows_behind f separators) (Group (in_group f separators content first) ∷ []) (first + length (rows_before f))
-      (nests_flat (rows_behind f separators) (first + length (rows_before f)) (behind_all (λ row. (n : ℕ) → ChildrenBelow n row) (λ bits n. tt) (λ bits n. tt) f separators (λ statement less n. tt) (λ own is n. tt) (λ own is n. tt)))
+      (nests_flat (rows_behind f separators) (first + length (rows_before f)) (behind_all (λ row. (n : ℕ) → ChildrenBelow n row) (λ bits n. tt) (λ bits n. tt) f separators (λ statement less n. tt) (λ statement less n. tt) (λ own is n. tt) (λ own is n. tt)))
       (nests_cons (first + length (rows_before f) + length (rows_behind f separators)) (Group (in_group f separators content first)) [] group_below
       (nests_none (first + length (rows_before f) + length (rows_behind f separators) + 1)))))
+
+-- a content with the instances that are open in it
+nests_opened : (f : Framing) (separators : Option ℕ) (content first : ℕ) → content < first → NestsFrom first (opened f separators content first)
+nests_opened f separators content first low =
+    let inside : ℕ = framed_row (untested f) separators content first in
+    let behind : ℕ = first + framing_size (untested f) separators in
+    let frame : List Row = framed (untested f) separators content first in
+    let instances : List Row = instance_rows f.openings (framed_row (untested f) separators content first) (first + framing_size (untested f) separators) in
+    let tests : List Row = framed (tests_alone f) None (opened_row f separators content first) (first + framing_size (untested f) separators + f.openings.count) in
+    let under : framed_row (untested f) separators content first < first + framing_size (untested f) separators = framed_below (untested f) separators content first low in
+    let after : first + framing_size (untested f) separators ≡ first + length (framed (untested f) separators content first)
+    = ap (λ (n : ℕ). first + n) (sym (length_framed (untested f) separators content first)) in
+    let end : first + framing_size (untested f) separators + f.openings.count ≡ first + framing_size (untested f) separators + length instances
+    = ap (λ (n : ℕ). first + framing_size (untested f) separators + n) (sym (length_instances f.openings.first f.openings.count inside behind)) in
+    opened_cases f separators content first (λ rows size. NestsFrom first rows) (nests_framed f separators content first low)
+    (nests_append frame (instances ++ tests) first (nests_framed (untested f) separators content first low)
+    (subst (λ (n : ℕ). NestsFrom n (instances ++ tests)) after
+    (nests_append instances tests behind (instances_nest f.openings.first f.openings.count inside behind under)
+    (subst (λ (n : ℕ). NestsFrom n tests) end
+    (nests_framed (tests_alone f) None (opened_row f separators content first) (first + framing_size (untested f) separators + f.openings.count)
+    (outermost_below f.openings.count inside behind under))))))
 
 -- the row of an element behind them
 nests_element : (f : Framing) (content first : ℕ) → content < first → (name : List ℕ) (simple : Option Simple) (tried : Representations)
@@ -106,18 +127,16 @@ nests_element f content first low name simple tried =
     (nests_none (first + length (framed f None content first) + 1)))
 
 -- a content in its box
-nests_box : (box : ContentBox) (content first : ℕ) → content < first → NestsFrom first (box_rows box content)
-nests_box Unbounded content first low = nests_none first
-nests_box (Sized bits) content first low = nests_cons first (Boxed bits content) [] low (nests_none (first + 1))
-nests_box (Prefixed prefix) content first low = nests_cons first (PrefixedBox prefix content) [] low (nests_none (first + 1))
-nests_box (Measured measure) content first low = nests_cons first (MeasuredBox measure content) [] low (nests_none (first + 1))
+below_box : (box : ContentBox) (content first : ℕ) → content < first → ChildrenBelow first (box_row box content)
+below_box Unbounded content first low = low
+below_box (Sized bits) content first low = low
+below_box (Prefixed prefix) content first low = low
+below_box (Measured measure) content first low = low
 
 nests_boxed : (name : List ℕ) (f : Framing) (box : ContentBox) (content first : ℕ) → content < first → NestsFrom first (boxed_rows name f box content first)
 nests_boxed name f box content first low =
-    let element : List Row = element_rows name None no_trials f (boxed_row box content first) (first + box_size box) in
-    nests_append (box_rows box content) element first (nests_box box content first low)
-    (subst (λ (n : ℕ). NestsFrom (first + n) element) (sym (length_box box content))
-    (nests_element f (boxed_row box content first) (first + box_size box) (box_below box content first low) name None no_trials))
+    nests_cons first (box_row box content) (element_rows name None no_trials f first (first + 1)) (below_box box content first low)
+    (nests_element f first (first + 1) (omega arith) name None no_trials)
 
 -- a content in its scope, and what is around both
 nests_scope : (t : Option ℕ) (content first : ℕ) → content < first → NestsFrom first (scope_rows t content)
@@ -134,26 +153,30 @@ nests_scoped t around nests content first low =
 
 nests_sequence : (f : Framing) (separators : Option ℕ) (content first : ℕ) → content < first → NestsFrom first (sequence_rows f separators content first)
 nests_sequence f separators =
-    nests_scoped separators (scoped (list_of f.terminator) (framed f separators))
-    (nests_scoped (list_of f.terminator) (framed f separators) (nests_framed f separators))
+    nests_scoped separators (scoped (list_of f.terminator) (opened f separators))
+    (nests_scoped (list_of f.terminator) (opened f separators) (nests_opened f separators))
 
 -- the group of a sequence or choice, and what is around it
-nests_slots : (kind : Grouping) (f : Framing) (separated : Option Separated) (initiated : Bool) (slots : List Times) (lasts : List ℕ) (first : ℕ)
-    → length slots ≡ length lasts → All (λ n. n < first) lasts → NestsFrom first (group_rows kind f separated initiated slots lasts first)
-nests_slots kind f separated initiated slots lasts first long below =
+nests_slots : (kind : Kind) (f : Framing) (separated : Option Separated) (initiated : Bool) (slots : List Times) (lasts : List ℕ) (first : ℕ)
+    → length slots ≡ length lasts → All (λ n. n < first) lasts → LeadsWithin kind (length (laid_of initiated separated slots lasts first).children)
+    → NestsFrom first (group_rows kind f separated initiated slots lasts first)
+nests_slots kind f separated initiated slots lasts first long below leads =
     let size : ℕ = slots_size separated slots in
     let others : List Row = sequence_rows f (separator_list separated) (first + size) (first + size + 1) in
     let after : first + length (grouped kind initiated separated slots lasts first) ≡ first + size + 1
     = omega (arith, length_grouped kind initiated separated slots lasts first) in
     concluded_nests f.behind (around_rows kind f separated initiated slots lasts first) first
     (omega (arith, length_around kind f separated initiated slots lasts first))
-    (nests_append (grouped kind initiated separated slots lasts first) others first (grouped_nests kind initiated separated slots lasts first long below)
+    (nests_append (grouped kind initiated separated slots lasts first) others first (grouped_nests kind initiated separated slots lasts first long below leads)
     (subst (λ (n : ℕ). NestsFrom n others) (sym after) (nests_sequence f (separator_list separated) (first + size) (first + size + 1) (omega arith))))
 
 own_nest : (component : Component) (slots : List Times) (ps lasts : List ℕ) (first : ℕ) → CanHave component ps → length lasts ≡ length ps → length slots ≡ length ps
     → All (λ n. n < first) lasts → NestsFrom first (own_rows component slots lasts first)
-own_nest (Sequence f separated initiated) slots ps lasts first can long many below = nests_slots grouping.Sequence f separated initiated slots lasts first (omega (arith, long, many)) below
-own_nest (Choice f initiated) slots ps lasts first can long many below = nests_slots grouping.Choice f None initiated slots lasts first (omega (arith, long, many)) below
+own_nest (Sequence f separated initiated) slots ps lasts first can long many below = nests_slots InOrder f separated initiated slots lasts first (omega (arith, long, many)) below tt
+own_nest (Choice f initiated None) slots ps lasts first can long many below = nests_slots OneTried f None initiated slots lasts first (omega (arith, long, many)) below tt
+own_nest (Choice f initiated (Some dispatch)) slots ps lasts first can long many below =
+    nests_slots (OneByKey dispatch) f None initiated slots lasts first (omega (arith, long, many)) below
+    (subst (λ (count : ℕ). All (λ key. key.branch < count) dispatch.keys) (sym (length_children initiated slots lasts first ∙ many)) can)
 own_nest (ComplexElement name f box occurs often) slots ps lasts first can long many below =
     nests_scoped (list_of f.terminator) (boxed_rows name f box) (nests_boxed name f box) (get_or lasts 0 0) first (below 0 0 (omega (arith, can, long)))
 own_nest (SimpleElement name simple prim f own_length tried scanned occurs often) slots ps lasts first can long many below =
@@ -219,9 +242,14 @@ rows_all s ordered P own = by_parts s.uses ordered.0 ordered.1 (λ c. IsAll P (r
 -- what rows name is there
 module _ (named : Named) (f : Framing) (separators : Option ℕ)
     (has : HasList (length named.delimiters) f.initiator × HasList (length named.delimiters) f.terminator)
-    (within : IsWithin (length named.delimiters) separators) (before : AreStatements (length named.statements) f.before) where
+    (within : IsWithin (length named.delimiters) separators) (stated : HasFramingStatements (length named.statements) f) where
   framed_named : (content first : ℕ) → All (NamesWithin named) (framed f separators content first)
-  framed_named = framed_all (NamesWithin named) (λ bits. tt) (λ bits. tt) f separators (λ statement less. omega (arith, less, before)) (λ own is. subst (HasList (length named.delimiters)) is has.0)
+  framed_named = framed_all (NamesWithin named) (λ bits. tt) (λ bits. tt) f separators (λ statement less. omega (arith, less, stated.0)) (λ statement less. omega (arith, less, stated.2))
+      (λ own is. subst (HasList (length named.delimiters)) is has.0) (λ own is. (subst (HasList (length named.delimiters)) is has.1, within)) (λ children. tt)
+
+  opened_named : (content first : ℕ) → All (NamesWithin named) (opened f separators content first)
+  opened_named = opened_all (NamesWithin named) (λ bits. tt) (λ bits. tt) f separators (λ statement less. omega (arith, less, stated.0)) (λ statement body less. omega (arith, less, stated.1))
+      (λ statement less. omega (arith, less, stated.2)) (λ own is. subst (HasList (length named.delimiters)) is has.0)
       (λ own is. (subst (HasList (length named.delimiters)) is has.1, within)) (λ children. tt)
 
   scoped_named : (around : ℕ → ℕ → List Row) → ((content first : ℕ) → All (NamesWithin named) (around content first))
@@ -232,9 +260,9 @@ module _ (named : Named) (f : Framing) (separators : Option ℕ)
 
   sequence_named : (content first : ℕ) → All (NamesWithin named) (sequence_rows f separators content first)
   sequence_named =
-      scoped_all (NamesWithin named) separators (scoped (list_of f.terminator) (framed f separators))
+      scoped_all (NamesWithin named) separators (scoped (list_of f.terminator) (opened f separators))
       (λ list body is. subst (IsWithin (length named.delimiters)) is within)
-      (scoped_named (framed f separators) framed_named)
+      (scoped_named (opened f separators) opened_named)
 
 -- the list of a sequence's separators is there
 separators_within : (count : ℕ) (separated : Option Separated) → HasSeparators count separated → IsWithin count (separator_list separated)
@@ -249,51 +277,57 @@ counted_named : (named : Named) (n : Times) → IsAsked (length named.statements
 counted_named named n within question body is = subst (IsWithin (length named.statements)) is within
 
 -- the rows of a sequence or choice of its own
-group_named : (named : Named) (kind : Grouping) (f : Framing) (separated : Option Separated) (initiated : Bool) (slots : List Times) (lasts : List ℕ) (first : ℕ)
+group_named : (named : Named) (kind : Kind) (f : Framing) (separated : Option Separated) (initiated : Bool) (slots : List Times) (lasts : List ℕ) (first : ℕ)
     → All (IsAsked (length named.statements)) slots → HasList (length named.delimiters) f.initiator → HasList (length named.delimiters) f.terminator → HasSeparators (length named.delimiters) separated
-    → AreStatements (length named.statements) f.before → AreStatements (length named.statements) f.behind
+    → HasFramingStatements (length named.statements) f → ((children : List ℕ) → NamesWithin named (row_of kind initiated children))
     → All (NamesWithin named) (group_rows kind f separated initiated slots lasts first)
-group_named named kind f separated initiated slots lasts first asked initiator terminator separators before behind =
+group_named named kind f separated initiated slots lasts first asked initiator terminator separators stated row =
     let size : ℕ = slots_size separated slots in
     let within : IsWithin (length named.delimiters) (separator_list separated) = separators_within (length named.delimiters) separated separators in
     concluded_all (NamesWithin named) f.behind (around_rows kind f separated initiated slots lasts first) first
     (All-append (NamesWithin named) (grouped kind initiated separated slots lasts first) (sequence_rows f (separator_list separated) (first + size) (first + size + 1))
-    (grouped_all (NamesWithin named) (λ children. tt) (λ branches own. tt) tt (λ count body. tt) (λ most item own body. tt) (λ policy position own all. tt)
-    kind initiated separated slots (λ k n less. counted_named named (get_or slots k n) (asked k n less)) lasts first)
-    (sequence_named named f (separator_list separated) (initiator, terminator) within before (first + size) (first + size + 1)))
-    (λ body some. behind)
+    (grouped_all (NamesWithin named) (λ children. tt) tt (λ count body. tt) (λ most item own body. tt)
+    kind initiated row separated slots (λ k n less. counted_named named (get_or slots k n) (asked k n less)) lasts first
+    (λ policy position. slots_hold (λ (slot : Slot). IsWithin (length named.statements) slot.question) (IsAsked (length named.statements)) (λ n part within. within) lasts slots asked 0))
+    (sequence_named named f (separator_list separated) (initiator, terminator) within stated (first + size) (first + size + 1)))
+    (λ body some. stated.3)
 
 own_named : (named : Named) (component : Component) (slots : List Times) (lasts : List ℕ) (first : ℕ) → All (IsAsked (length named.statements)) slots → HasPrimitive (length named.primitives) component
     → HasDelimiters (length named.delimiters) component → HasStatements (length named.statements) component → All (NamesWithin named) (own_rows component slots lasts first)
 own_named named (Sequence f separated initiated) slots lasts first asked has lists statements =
-    group_named named grouping.Sequence f separated initiated slots lasts first asked lists.0 lists.1 lists.2 statements.0 statements.1
-own_named named (Choice f initiated) slots lasts first asked has lists statements =
-    group_named named grouping.Choice f None initiated slots lasts first asked lists.0 lists.1 tt statements.0 statements.1
+    group_named named InOrder f separated initiated slots lasts first asked lists.0 lists.1 lists.2 statements.0 (λ children. tt)
+own_named named (Choice f initiated None) slots lasts first asked has lists statements =
+    group_named named OneTried f None initiated slots lasts first asked lists.0 lists.1 tt statements.0 (λ children. tt)
+own_named named (Choice f initiated (Some dispatch)) slots lasts first asked has lists statements =
+    group_named named (OneByKey dispatch) f None initiated slots lasts first asked lists.0 lists.1 tt statements.0 (λ children. statements.2)
 own_named named (ComplexElement name f box occurs often) slots lasts first asked has lists statements =
     scoped_named named f None (lists.0, lists.1) tt statements.0 (boxed_rows name f box)
-    (boxed_all (NamesWithin named) name f box (λ bits body. tt) (λ own body is. subst (HasBoxPrimitive (length named.primitives)) is has)
-    (λ measure body is. subst (HasBoxQuestion (length named.statements)) is statements.3.0)
-    (framed_named named f None (lists.0, lists.1) tt statements.0) (λ body. ((tt, tt), statements.1)))
+    (boxed_all (NamesWithin named) name f box (λ body is. tt) (λ bits body is. tt) (λ own body is. subst (HasBoxPrimitive (length named.primitives)) is has)
+    (λ measure body is. subst (HasBoxQuestion (length named.statements)) is statements.2.0)
+    (framed_named named f None (lists.0, lists.1) tt statements.0) (λ body. ((tt, tt, tt), statements.0.3)))
     (get_or lasts 0 0) first
 own_named named (SimpleElement name simple prim f own_length tried scanned occurs often) slots lasts first asked has lists statements =
     let list : Option ℕ = scanned_list scanned f.terminator in
     All-cons (NamesWithin named) (leaf_row own_length prim) (scoped list (element_rows name (Some simple) tried f) first (first + 1))
     (leaf_holds (NamesWithin named) own_length prim has.0 (λ own is. (subst (HasPrefixPrimitive (length named.primitives)) is has.1, has.0))
-    (λ measure is. (subst (HasLeafQuestion (length named.statements)) is statements.3.0, has.0)))
+    (λ measure is. (subst (HasLeafQuestion (length named.statements)) is statements.2.0, has.0)))
     (scoped_all (NamesWithin named) list (element_rows name (Some simple) tried f)
     (λ n body is. scanned_holds (λ n. n < length named.delimiters) scanned f.terminator n is (λ own there. subst (HasList (length named.delimiters)) there lists.1))
-    (λ content from. element_all (NamesWithin named) name (Some simple) tried f content from (framed_named named f None (lists.0, lists.1) tt statements.0 content from) (has.2, statements.1))
+    (λ content from. element_all (NamesWithin named) name (Some simple) tried f content from (framed_named named f None (lists.0, lists.1) tt statements.0 content from) (has.2, statements.0.3))
     first (first + 1))
 own_named named (CalculatedElement name simple statement f) slots lasts first asked has lists statements =
-    All-cons (NamesWithin named) (Statement statement) (element_rows name (Some simple) no_trials f first (first + 1)) statements.2
+    All-cons (NamesWithin named) (Statement statement) (element_rows name (Some simple) no_trials f first (first + 1)) statements.1
     (element_all (NamesWithin named) name (Some simple) no_trials f first (first + 1)
-    (framed_named named f None (lists.0, lists.1) tt statements.0 first (first + 1)) ((tt, tt), statements.1))
+    (framed_named named f None (lists.0, lists.1) tt statements.0 first (first + 1)) ((tt, tt, tt), statements.0.3))
 own_named named Hidden slots lasts first asked has lists statements = All-cons (NamesWithin named) (HiddenRow (get_or lasts 0 0)) [] tt (All-nil (NamesWithin named))
 
 -- each row is plain where there is neither a statement nor fill nor a delimiter nor a box nor a prefix nor a question
 module _ (f : Framing) (none : has_framing f ≡ false) where
   unframed_plain : (content first : ℕ) → All IsPlainRow (framed f None content first)
   unframed_plain content first = subst (All IsPlainRow) (sym (unframed f None content first none)) (All-nil IsPlainRow)
+
+  unopened_plain : f.openings.count ≡ 0 → (content first : ℕ) → All IsPlainRow (opened f None content first)
+  unopened_plain closed content first = subst (All IsPlainRow) (sym (unopened f None content first closed)) (unframed_plain content first)
 
   no_scope : (list : ℕ) → list_of f.terminator ≡ Some list → ⊥
   no_scope list is = absurd (let there = no_terminator f none in cc)
@@ -311,16 +345,17 @@ own_bare : (component : Component) (slots : List Times) (lasts : List ℕ) (firs
 own_bare (Sequence f None initiated) slots lasts first bare few =
     let size : ℕ = slots_size None slots in
     let others : List Row = sequence_rows f None (first + size) (first + size + 1) in
-    subst (All IsPlainRow) (sym (unconcluded f.behind (around_rows grouping.Sequence f None initiated slots lasts first) first bare.unconcluded))
-    (subst (λ (own : List Row). All IsPlainRow (own ++ others)) (sym (none_grouped grouping.Sequence initiated slots lasts first few))
+    subst (All IsPlainRow) (sym (unconcluded f.behind (around_rows InOrder f None initiated slots lasts first) first bare.unconcluded))
+    (subst (λ (own : List Row). All IsPlainRow (own ++ others)) (sym (none_grouped InOrder initiated slots lasts first few))
     (All-cons IsPlainRow (Group (laid_of initiated None slots lasts first).children) (sequence_rows f None (first + size) (first + size + 1)) tt
-    (unscoped_plain f bare.unframed (framed f None) (unframed_plain f bare.unframed) (first + size) (first + size + 1 + 0))))
-own_bare (Choice f initiated) slots lasts first bare few = absurd (let none = bare.unchosen in cc)
+    (unscoped_plain f bare.unframed (opened f None) (unopened_plain f bare.unframed bare.unopened) (first + size) (first + size + 1 + 0))))
+own_bare (Choice f initiated dispatch) slots lasts first bare few = absurd (let none = bare.unchosen in cc)
 own_bare Hidden slots lasts first bare few = absurd (let none = bare.unhidden in cc)
 own_bare (CalculatedElement name simple statement f) slots lasts first bare few = absurd (let none = bare.uncalculated in cc)
 own_bare (Sequence f (Some own) initiated) slots lasts first bare few = absurd (let none = bare.unseparated in cc)
 own_bare (ComplexElement name f Unbounded occurs often) slots lasts first bare few =
-    unscoped_plain f bare.unframed (boxed_rows name f Unbounded) (λ content n. element_plain f bare.unframed name None no_trials content (n + 0))
+    unscoped_plain f bare.unframed (boxed_rows name f Unbounded)
+    (λ content n. All-cons IsPlainRow (Spanned content) (element_rows name None no_trials f n (n + 1)) tt (element_plain f bare.unframed name None no_trials n (n + 1)))
     (get_or lasts 0 0) first
 own_bare (ComplexElement name f (Sized bits) occurs often) slots lasts first bare few = absurd (let none = bare.unboxed in cc)
 own_bare (ComplexElement name f (Prefixed prefix) occurs often) slots lasts first bare few = absurd (let none = bare.unboxed in cc)
@@ -355,7 +390,7 @@ once_times occurs (Told question) few untried untold = absurd (cc)
 
 once_slots : (component : Component) (parts : List ℕ) → IsOnce component → IsSingle (slots_of component parts)
 once_slots (Sequence f separated initiated) parts is = record { few = once_group f parts; untried = refl; untold = refl }
-once_slots (Choice f initiated) parts is = record { few = once_group f parts; untried = refl; untold = refl }
+once_slots (Choice f initiated dispatch) parts is = record { few = once_group f parts; untried = refl; untold = refl }
 once_slots (ComplexElement name f box occurs often) parts is = once_times occurs often is.few is.untried is.untold
 once_slots (SimpleElement name simple prim f own_length tried scanned occurs often) parts is = once_times occurs often is.few is.untried is.untold
 once_slots (CalculatedElement name simple statement f) parts is = record { few = omega arith; untried = refl; untold = refl }
@@ -383,7 +418,7 @@ asked_times count occurs (Told question) within = within
 
 asked_slots : (count : ℕ) (component : Component) (parts : List ℕ) → IsWithin count (question_in component) → IsAsked count (slots_of component parts)
 asked_slots count (Sequence f separated initiated) parts within = tt
-asked_slots count (Choice f initiated) parts within = tt
+asked_slots count (Choice f initiated dispatch) parts within = tt
 asked_slots count (ComplexElement name f box occurs often) parts within = asked_times count occurs often within
 asked_slots count (SimpleElement name simple prim f own_length tried scanned occurs often) parts within = asked_times count occurs often within
 asked_slots count (CalculatedElement name simple statement f) parts within = tt
@@ -391,9 +426,9 @@ asked_slots count Hidden parts within = tt
 
 asked_one : (count : ℕ) (component : Component) → HasStatements count component → IsWithin count (question_in component)
 asked_one count (Sequence f separated initiated) has = tt
-asked_one count (Choice f initiated) has = tt
-asked_one count (ComplexElement name f box occurs often) has = has.3.1
-asked_one count (SimpleElement name simple prim f own_length tried scanned occurs often) has = has.3.1
+asked_one count (Choice f initiated dispatch) has = tt
+asked_one count (ComplexElement name f box occurs often) has = has.2.1
+asked_one count (SimpleElement name simple prim f own_length tried scanned occurs often) has = has.2.1
 asked_one count (CalculatedElement name simple statement f) has = tt
 asked_one count Hidden has = tt
 
@@ -427,11 +462,6 @@ module _ (s : Schema) (ordered : HasOrder s.uses) (one : AreOfOne s.uses s.compo
       root within 0
 
 -- an element's own row is the last one
-one_part : (f : ℕ → Numbered) (ps : List ℕ) → length ps ≡ 1 → get_or (last_rows (map f ps) 0) 0 0 ≡ length (in_turn (map f ps) 0) - 1
-one_part f [] one = absurd (omega (arith, one))
-one_part f (p ∷ []) one = omega (arith, length-append (f p 0) [])
-one_part f (p ∷ (q ∷ ps)) one = absurd (omega (arith, one))
-
 last_of : {A : Type 0} (before : List A) (x : A) → slice_get (before ++ x ∷ []) (length (before ++ x ∷ []) - 1) ≡ Some x
 last_of [] x = refl
 last_of (b ∷ []) x = refl
@@ -457,38 +487,28 @@ element_last before f content first name simple tried begins is =
     ap (λ (rows : List Row). slice_get rows (length rows - 1)) regrouped
     ∙ (last_of (before ++ framed f None content first) row ∙ ap (λ (n : ℕ). Some (Elem name simple tried f.behind n)) same)
 
-module _ (name : List ℕ) (f : Framing) (box : ContentBox) (before : List Row) (content first : ℕ) (begins : first ≡ length before) (is : content + 1 ≡ first) where
-  boxed_last : IsLast name None no_trials f.behind (before ++ boxed_rows name f box content first)
-  boxed_last =
-      let element : List Row = element_rows name None no_trials f (boxed_row box content first) (first + box_size box) in
-      subst (IsLast name None no_trials f.behind) (append_assoc before (box_rows box content) element)
-      (element_last (before ++ box_rows box content) f (boxed_row box content first) (first + box_size box) name None no_trials
-      (omega (arith, begins, length-append before (box_rows box content), length_box box content)) (box_end box content first is))
+boxed_last : (name : List ℕ) (f : Framing) (box : ContentBox) (before : List Row) (content first : ℕ) → first ≡ length before
+    → IsLast name None no_trials f.behind (before ++ boxed_rows name f box content first)
+boxed_last name f box before content first begins =
+    subst (IsLast name None no_trials f.behind) (append_assoc before (box_row box content ∷ []) (element_rows name None no_trials f first (first + 1)))
+    (element_last (before ++ box_row box content ∷ []) f first (first + 1) name None no_trials (omega (arith, begins, length-append before (box_row box content ∷ []))) refl)
 
-complex_last : (name : List ℕ) (f : Framing) (box : ContentBox) (before : List Row) (content first : ℕ) → first ≡ length before → content + 1 ≡ first
+complex_last : (name : List ℕ) (f : Framing) (box : ContentBox) (before : List Row) (content first : ℕ) → first ≡ length before
     → IsLast name None no_trials f.behind (before ++ scoped (list_of f.terminator) (boxed_rows name f box) content first)
-complex_last name f box before content first begins is =
+complex_last name f box before content first begins =
     let others : List Row = boxed_rows name f box (scoped_row (list_of f.terminator) content first) (first + scope_size (list_of f.terminator)) in
     subst (IsLast name None no_trials f.behind) (append_assoc before (scope_rows (list_of f.terminator) content) others)
     (boxed_last name f box (before ++ scope_rows (list_of f.terminator) content) (scoped_row (list_of f.terminator) content first) (first + scope_size (list_of f.terminator))
-    (omega (arith, begins, length-append before (scope_rows (list_of f.terminator) content), length_scope (list_of f.terminator) content))
-    (scope_end (list_of f.terminator) content first is))
+    (omega (arith, begins, length-append before (scope_rows (list_of f.terminator) content), length_scope (list_of f.terminator) content)))
 
-turn_some : (f : ℕ → Numbered) (ps : List ℕ) → length ps ≡ 1 → All (λ p. 0 < length (f p 0)) ps → 0 < length (in_turn (map f ps) 0)
-turn_some f [] one all = absurd (omega (arith, one))
-turn_some f (p ∷ ps) one all =
-    let here : 0 < length (f p 0) = all 0 p (omega arith) in
-    omega (arith, here, length-append (f p 0) (in_turn (map f ps) (0 + length (f p 0))))
-
-own_last : (component : Component) (slots : List Times) (f : ℕ → Numbered) (ps : List ℕ) → CanHave component ps → All (λ p. 0 < length (f p 0)) ps
+own_last : (component : Component) (slots : List Times) (f : ℕ → Numbered) (ps : List ℕ)
     → EndsWith component (in_turn (map f ps) 0 ++ own_rows component slots (last_rows (map f ps) 0) (0 + length (in_turn (map f ps) 0)))
-own_last (Sequence framing separated initiated) slots f ps can some = tt
-own_last (Choice framing initiated) slots f ps can some = tt
-own_last Hidden slots f ps can some = tt
-own_last (ComplexElement name framing box occurs often) slots f ps can some =
+own_last (Sequence framing separated initiated) slots f ps = tt
+own_last (Choice framing initiated dispatch) slots f ps = tt
+own_last Hidden slots f ps = tt
+own_last (ComplexElement name framing box occurs often) slots f ps =
     complex_last name framing box (in_turn (map f ps) 0) (get_or (last_rows (map f ps) 0) 0 0) (0 + length (in_turn (map f ps) 0)) (omega arith)
-    (omega (arith, one_part f ps can, turn_some f ps can some))
-own_last (SimpleElement name simple prim framing own_length tried scanned occurs often) slots f ps can some =
+own_last (SimpleElement name simple prim framing own_length tried scanned occurs often) slots f ps =
     let turn : List Row = in_turn (map f ps) 0 in
     let first : ℕ = 0 + length (in_turn (map f ps) 0) in
     let list : Option ℕ = scanned_list scanned framing.terminator in
@@ -501,7 +521,7 @@ own_last (SimpleElement name simple prim framing own_length tried scanned occurs
     subst (IsLast name (Some simple) tried framing.behind) (sym regrouped)
     (element_last before framing whole behind name (Some simple) tried
     (omega (arith, length-append turn (leaf_row own_length prim ∷ scope_rows list first), length_scope list first)) (scope_end list first (first + 1) refl))
-own_last (CalculatedElement name simple statement framing) slots f ps can some =
+own_last (CalculatedElement name simple statement framing) slots f ps =
     let turn : List Row = in_turn (map f ps) 0 in
     let first : ℕ = 0 + length (in_turn (map f ps) 0) in
     let own : List Row = element_rows name (Some simple) no_trials framing first (first + 1) in
@@ -510,9 +530,7 @@ own_last (CalculatedElement name simple statement framing) slots f ps can some =
     subst (IsLast name (Some simple) no_trials framing.behind) (sym regrouped)
     (element_last before framing first (first + 1) name (Some simple) no_trials (omega (arith, length-append turn (Statement statement ∷ []))) refl)
 
-pub rows_end : (s : Schema) → HasOrder s.uses → AreOfOne s.uses s.components s.refusals s.places → (root : ℕ) → root < length s.uses
-    → EndsWith (component_at s.components root) (rows_of s root)
-rows_end s ordered one root within =
+pub rows_end : (s : Schema) → HasOrder s.uses → (root : ℕ) → root < length s.uses → EndsWith (component_at s.components root) (rows_of s root)
+rows_end s ordered root within =
     subst (λ (rows : Numbered). EndsWith (component_at s.components root) (rows 0)) (sym (rows_step s ordered root within))
-    (own_last (component_at s.components root) (slots_at s root) (rows_at s) (uses_of s.uses root) (one.fit root within)
-    (λ k d less. (nested s ordered one (get_or (uses_of s.uses root) k d) (parts_within s.uses ordered.0 ordered.1 root within k d less)).some 0))
+    (own_last (component_at s.components root) (slots_at s root) (rows_at s) (uses_of s.uses root))

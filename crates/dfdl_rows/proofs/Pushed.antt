@@ -1,5 +1,5 @@
 -- The rows that frame a content are pushed, a row at a time.
-use Rattle.std.proofs.Common.{Option, ◌≡◌, ℕ, suc, ◌+◌, ◌-◌, ◌<◌, ◌≤◌, Bool, true, false, if◌then◌else◌, List, [], ◌∷◌, ◌++◌, length, refl, sym, ap, ◌∙◌, arith, append_assoc, length-append}
+use Rattle.std.proofs.Common.{Option, ◌≡◌, ℕ, suc, ◌+◌, ◌-◌, ◌<◌, ◌≤◌, Bool, true, false, if◌then◌else◌, List, [], ◌∷◌, ◌++◌, length, sym, ap, ◌∙◌, arith, append_assoc, length-append}
 use Rattle.std.proofs.lemmas.List.{append-nil}
 use Rattle.dfdl_terms.specs.declared.framing.Framing.{Framing}
 use Rattle.dfdl_terms.specs.declared.row.Row.{Row}
@@ -32,15 +32,19 @@ pub some_size : (f : Framing) (separators : Option ℕ) (before behind : ℕ) �
     → before + behind + 1 ≡ framing_size f separators
 some_size f separators before behind some befores behinds = omega (arith, befores, behinds, size_is f separators some)
 
-pub before_size : (f : Framing) (statements leading align initiator : ℕ) → statements ≡ length (statement_rows f.before) → leading ≡ length (skip_rows f.leading_skip)
-    → align ≡ length (align_rows f.alignment) → initiator ≡ length (initiator_rows f.initiator) → statements + (leading + align) + initiator ≡ length (rows_before f)
-before_size f statements leading align initiator stated leads aligns begins =
+pub before_size : (f : Framing) (tests settings leading align initiator : ℕ) → tests ≡ length (statement_rows f.before) → settings ≡ length (statement_rows f.settings)
+    → leading ≡ length (skip_rows f.leading_skip) → align ≡ length (align_rows f.alignment) → initiator ≡ length (initiator_rows f.initiator)
+    → tests + settings + (leading + align) + initiator ≡ length (rows_before f)
+before_size f tests settings leading align initiator tested set leads aligns begins =
     let rest : length (align_rows f.alignment ++ initiator_rows f.initiator) ≡ length (align_rows f.alignment) + length (initiator_rows f.initiator)
     = length-append (align_rows f.alignment) (initiator_rows f.initiator) in
     let fill : length (fill_rows f) ≡ length (skip_rows f.leading_skip) + length (align_rows f.alignment ++ initiator_rows f.initiator)
     = length-append (skip_rows f.leading_skip) (align_rows f.alignment ++ initiator_rows f.initiator) in
-    let whole : length (rows_before f) ≡ length (statement_rows f.before) + length (fill_rows f) = length-append (statement_rows f.before) (fill_rows f) in
-    omega (arith, stated, leads, aligns, begins, rest, fill, whole)
+    let inner : length (statement_rows f.settings ++ fill_rows f) ≡ length (statement_rows f.settings) + length (fill_rows f)
+    = length-append (statement_rows f.settings) (fill_rows f) in
+    let whole : length (rows_before f) ≡ length (statement_rows f.before) + length (statement_rows f.settings ++ fill_rows f)
+    = length-append (statement_rows f.before) (statement_rows f.settings ++ fill_rows f) in
+    omega (arith, tested, set, leads, aligns, begins, rest, fill, inner, whole)
 
 -- the first of the statements that are left
 module _ (first count behind : ℕ) where

@@ -10,15 +10,12 @@ use Rattle.dfdl_rows.specs.Components.{Schema, component_at, no_trials, slots_at
 use Rattle.dfdl_rows.specs.declared.component.Component.{Component}
 use Rattle.dfdl_rows.specs.declared.component.Component.TheVariants.{Sequence, Choice, ComplexElement, SimpleElement, CalculatedElement, Hidden}
 use Rattle.dfdl_rows.specs.Sizes.{total, group_size, own_size, size_from, size_of}
-use Rattle.dfdl_rows.specs.Boxes.{box_size}
-use Rattle.dfdl_rows.specs.Framing.{conclusion, conclusion_size, framed, framing_size}
+use Rattle.dfdl_rows.specs.Framing.{conclusion, conclusion_size, framing_size, opened, opened_size}
 use Rattle.dfdl_rows.specs.Scopes.{list_of, scanned_list, scope_size}
-use Rattle.dfdl_rows.specs.Slots.{grouped, separator_list, slots_size}
-use Rattle.dfdl_rows.specs.declared.slots.Grouping.{Grouping}
-use Rattle.dfdl_rows.specs.declared.slots.Grouping.TheVariants as grouping
+use Rattle.dfdl_rows.specs.Slots.{Kind, InOrder, grouped, kind_by, separator_list, slots_size}
 use Rattle.dfdl_rows.specs.declared.component.Separated.{Separated}
 use Rattle.dfdl_rows.specs.RowLists.{Numbered, boxed_rows, element_rows, scoped, sequence_rows, around_rows, group_rows, own_rows, in_turn, last_rows, rows_from, no_rows, rows_at}
-use Rattle.dfdl_rows.proofs.Framed.{length_framed}
+use Rattle.dfdl_rows.proofs.Opened.{length_opened}
 use Rattle.dfdl_rows.proofs.Boxed.{length_boxed, length_element}
 use Rattle.dfdl_rows.proofs.Scoped.{length_scoped}
 use Rattle.dfdl_rows.proofs.Grouped.{length_grouped}
@@ -37,18 +34,18 @@ length_lasts f [] first = refl
 length_lasts f (p ∷ ps) first = omega (arith, length_lasts f ps (first + length (f p first)))
 
 length_sequence : (f : Framing) (separators : Option ℕ) (content first : ℕ)
-    → length (sequence_rows f separators content first) ≡ scope_size separators + (scope_size (list_of f.terminator) + framing_size f separators)
+    → length (sequence_rows f separators content first) ≡ scope_size separators + (scope_size (list_of f.terminator) + opened_size f separators)
 length_sequence f separators =
-    length_scoped separators (scoped (list_of f.terminator) (framed f separators)) (scope_size (list_of f.terminator) + framing_size f separators)
-    (length_scoped (list_of f.terminator) (framed f separators) (framing_size f separators) (length_framed f separators))
+    length_scoped separators (scoped (list_of f.terminator) (opened f separators)) (scope_size (list_of f.terminator) + opened_size f separators)
+    (length_scoped (list_of f.terminator) (opened f separators) (opened_size f separators) (length_opened f separators))
 
 -- the rows of a sequence or choice of its own, but for the one behind which statements are done
 abbrev pub around_size : Framing → Option Separated → List Times → ℕ
 around_size framing separated slots =
     1 + slots_size separated slots + scope_size (separator_list separated) + scope_size (list_of framing.terminator)
-    + framing_size framing (separator_list separated)
+    + opened_size framing (separator_list separated)
 
-pub length_around : (kind : Grouping) (framing : Framing) (separated : Option Separated) (initiated : Bool) (slots : List Times) (parts : List ℕ) (first : ℕ)
+pub length_around : (kind : Kind) (framing : Framing) (separated : Option Separated) (initiated : Bool) (slots : List Times) (parts : List ℕ) (first : ℕ)
     → length (around_rows kind framing separated initiated slots parts first) ≡ around_size framing separated slots
 length_around kind framing separated initiated slots parts first =
     let size : ℕ = slots_size separated slots in
@@ -60,7 +57,7 @@ length_around kind framing separated initiated slots parts first =
       length_sequence framing (separator_list separated) (first + size) (first + size + 1),
     )
 
-length_group : (kind : Grouping) (framing : Framing) (separated : Option Separated) (initiated : Bool) (slots : List Times) (parts : List ℕ) (first : ℕ)
+length_group : (kind : Kind) (framing : Framing) (separated : Option Separated) (initiated : Bool) (slots : List Times) (parts : List ℕ) (first : ℕ)
     → length (group_rows kind framing separated initiated slots parts first) ≡ group_size framing separated slots
 length_group kind framing separated initiated slots parts first =
     omega (
@@ -70,12 +67,12 @@ length_group kind framing separated initiated slots parts first =
     )
 
 pub length_own : (component : Component) (slots : List Times) (parts : List ℕ) (first : ℕ) → length (own_rows component slots parts first) ≡ own_size component slots
-length_own (Sequence framing separated initiated) slots parts first = length_group grouping.Sequence framing separated initiated slots parts first
-length_own (Choice framing initiated) slots parts first = length_group grouping.Choice framing None initiated slots parts first
+length_own (Sequence framing separated initiated) slots parts first = length_group InOrder framing separated initiated slots parts first
+length_own (Choice framing initiated dispatch) slots parts first = length_group (kind_by dispatch) framing None initiated slots parts first
 length_own (ComplexElement name framing box occurs often) slots parts first =
     omega (
       arith,
-      length_scoped (list_of framing.terminator) (boxed_rows name framing box) (1 + box_size box + framing_size framing None) (length_boxed name framing box)
+      length_scoped (list_of framing.terminator) (boxed_rows name framing box) (2 + framing_size framing None) (length_boxed name framing box)
           (get_or parts 0 0) first,
     )
 length_own (SimpleElement name simple prim framing own_length tried scanned occurs often) slots parts first =
@@ -114,7 +111,7 @@ length_rows s ordered = by_parts s.uses ordered.0 ordered.1 (λ c. IsLong (rows_
 
 some_own : (component : Component) (slots : List Times) (parts : ℕ) → 0 < own_size component slots + parts
 some_own (Sequence framing separated initiated) slots parts = omega arith
-some_own (Choice framing initiated) slots parts = omega arith
+some_own (Choice framing initiated dispatch) slots parts = omega arith
 some_own (ComplexElement name framing box occurs often) slots parts = omega arith
 some_own (SimpleElement name simple prim framing own_length tried scanned occurs often) slots parts = omega arith
 some_own (CalculatedElement name simple statement framing) slots parts = omega arith
@@ -127,7 +124,7 @@ some_rows s ordered c within =
     (some_own (component_at s.components c) (slots_at s c) (total (map (size_of s) (uses_of s.uses c))))
 
 -- the rows of a sequence or choice are added: those of its group, and those around it
-module _ (kind : Grouping) (f : Framing) (separated : Option Separated) (initiated : Bool) (slots : List Times) (parts : List ℕ) (rows next : List Row)
+module _ (kind : Kind) (f : Framing) (separated : Option Separated) (initiated : Bool) (slots : List Times) (parts : List ℕ) (rows next : List Row)
     (next_is : next ≡ rows ++ grouped kind initiated separated slots parts (length rows)) where
   next_long : length next ≡ length rows + slots_size separated slots + 1
   next_long =
@@ -140,7 +137,7 @@ module _ (kind : Grouping) (f : Framing) (separated : Option Separated) (initiat
       )
 
   pub around_few : (most : ℕ) → length rows + group_size f separated slots < most
-      → length next + scope_size (separator_list separated) + scope_size (list_of f.terminator) + framing_size f (separator_list separated) < most
+      → length next + scope_size (separator_list separated) + scope_size (list_of f.terminator) + opened_size f (separator_list separated) < most
   around_few most few = omega (arith, few, next_long)
 
   pub sequence_whole : (content : ℕ) (all : List Row) → content ≡ length rows + slots_size separated slots
@@ -154,7 +151,7 @@ module _ (kind : Grouping) (f : Framing) (separated : Option Separated) (initiat
       ∙ append_assoc rows (grouped kind initiated separated slots parts (length rows)) others)))
 
 -- the row behind which statements are done is added to them
-module _ (kind : Grouping) (f : Framing) (separated : Option Separated) (initiated : Bool) (slots : List Times) (parts : List ℕ) (rows next : List Row)
+module _ (kind : Kind) (f : Framing) (separated : Option Separated) (initiated : Bool) (slots : List Times) (parts : List ℕ) (rows next : List Row)
     (next_is : next ≡ rows ++ around_rows kind f separated initiated slots parts (length rows)) where
   around_long : length next ≡ length rows + around_size f separated slots
   around_long =

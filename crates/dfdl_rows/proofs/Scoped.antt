@@ -51,7 +51,7 @@ none_of false behind (Some own) is = absurd (cc)
 pub no_terminator : (f : Framing) → has_framing f ≡ false → list_of f.terminator ≡ None
 no_terminator f none =
     ap list_of
-    (none_of (nat_lt 0 f.before.count || nat_lt 0 f.leading_skip || nat_lt 1 f.alignment || is_some f.initiator) (nat_lt 0 f.trailing_skip) f.terminator none)
+    (none_of (nat_lt 0 f.before.count || nat_lt 0 f.settings.count || nat_lt 0 f.leading_skip || nat_lt 1 f.alignment || is_some f.initiator) (nat_lt 0 f.trailing_skip) f.terminator none)
 
 -- what holds of the list of a delimiter, where there is one
 pub listed : (P : ℕ → Type 0) (d : Option Delimiter) (list : ℕ) → list_of d ≡ Some list → ((own : Delimiter) → d ≡ Some own → P own.list) → P list

@@ -308,6 +308,39 @@ module _ (separator part bound : ℕ) (low : part < bound) where
       by None few = bounded_below way taken n from own few
       by (Some question) few = only_below from (omega (arith, few))
 
+-- without separators one row of the group stands for each part
+one_child : (separator : ℕ) (taken : Bool) (n : Times) (part from : ℕ) → length (part_children None separator taken n part from) ≡ 1
+one_child separator taken n part from = by n.question
+  where
+    required : (b : Bool) → length (if b then repeated None separator taken part from else single None separator taken (nat_lt 0 n.least) part) ≡ 1
+    required true = refl
+    required false = refl
+
+    bounded : (b : Bool) → length (if b then (from + tried_size n - 1) ∷ [] else required_children None separator taken n.least part from) ≡ 1
+    bounded true = refl
+    bounded false = required (nat_lt 1 n.least)
+
+    by : (question : Option ℕ) → length (children_by question None separator taken n part from) ≡ 1
+    by None = bounded (has_tried n)
+    by (Some question) = refl
+
+pub length_children : (initiated : Bool) (slots : List Times) (parts : List ℕ) (first : ℕ) → length (laid_of initiated None slots parts first).children ≡ length slots
+unfolding lay
+length_children initiated slots parts first = whole
+  where
+    all : (ns : List Times) (at : ℕ) (a : Laid) → length (lay initiated None first parts ns at a).children ≡ length a.children + length ns
+    all [] at a = omega arith
+    all (n ∷ ns) at a =
+        omega (
+          arith,
+          all ns (at + 1) (with_part initiated None first n (get_or parts at 0) a),
+          length-append a.children (part_children None first a.taken n (get_or parts at 0) (first + length a.rows)),
+          one_child first a.taken n (get_or parts at 0) (first + length a.rows),
+        )
+
+    whole : length (laid_of initiated None slots parts first).children ≡ length slots
+    whole = let from_none : length (laid_of initiated None slots parts first).children ≡ 0 + length slots = all slots 0 (laid [] [] false) in omega (arith, from_none)
+
 -- the rows so far nest, and those of the group stand below the next one
 pub record LaidNest (way : Option SeparatorPosition) (first : ℕ) (a : Laid) : Type 0 where
   pub nests : NestsFrom first a.rows

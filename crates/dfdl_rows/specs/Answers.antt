@@ -65,7 +65,7 @@ pub record AreRowsOf (a : Asked) (rows : List Row) : Type 0 where
 -- where a component is an element, the last of the rows is its own
 abbrev pub EndsWith : Component → List Row → Type 0
 EndsWith (Sequence framing separated initiated) rows = Unit {0}
-EndsWith (Choice framing initiated) rows = Unit {0}
+EndsWith (Choice framing initiated dispatch) rows = Unit {0}
 EndsWith (ComplexElement name framing box occurs often) rows = slice_get rows (length rows - 1) ≡ Some (Elem name None no_trials framing.behind (length rows - 2))
 EndsWith (SimpleElement name simple prim framing own_length tried scanned occurs often) rows = slice_get rows (length rows - 1) ≡ Some (Elem name (Some simple) tried framing.behind (length rows - 2))
 EndsWith (CalculatedElement name simple statement framing) rows =

@@ -1,5 +1,5 @@
 -- The components of a schema: what each one is, and which components it has as its parts ('DFDL Schema Component Model').
-use Rattle.std.specs.Prelude.{◌≡◌, ℕ, ◌<◌, ◌≤◌, Bool, true, false, List, [], length, map, get_or, Option, None, Some}
+use Rattle.std.specs.Prelude.{◌≡◌, ℕ, ◌<◌, ◌≤◌, Bool, true, false, List, [], length, map, All, get_or, Option, None, Some}
 use Rattle.dfdl_report.specs.declared.place.Place.{Place}
 use Rattle.dfdl_terms.specs.declared.delimiters.Delimiter.{Delimiter}
 use Rattle.dfdl_terms.specs.declared.framing.Framing.{Framing}
@@ -12,6 +12,7 @@ use Rattle.dfdl_order.specs.Parts.{uses_of, IsOrder, Places}
 use Rattle.dfdl_rows.specs.declared.component.Component.{Component}
 use Rattle.dfdl_rows.specs.declared.component.Component.TheVariants.{Sequence, Choice, ComplexElement, SimpleElement, CalculatedElement, Hidden}
 use Rattle.dfdl_rows.specs.declared.component.Separated.{Separated}
+use Rattle.dfdl_rows.specs.declared.component.Dispatch.{Dispatch}
 use Rattle.dfdl_rows.specs.declared.component.ContentBox.{ContentBox}
 use Rattle.dfdl_rows.specs.declared.component.ContentBox.TheVariants.{Unbounded, Sized, Prefixed, Measured}
 use Rattle.dfdl_rows.specs.declared.component.LeafLength.{LeafLength}
@@ -24,7 +25,13 @@ use Rattle.dfdl_rows.specs.declared.refusal.Refusal.{Refusal}
 
 -- no representation is tried before the normal one
 abbrev pub no_trials : Representations
-no_trials = record { nil = None; empty = None; refuses_empty = false; are_several = false }
+no_trials = record {
+  nil = None;
+  empty = None;
+  refuses_empty = false;
+  are_several = false;
+  where_tried = record { empty = None; refuses_empty = false; are_several = false };
+}
 
 -- by a component's number: its parts in schema order, what it is, the refusal of its own, if it has one, and where it begins
 pub record Schema : Type 0 where
@@ -41,10 +48,16 @@ component_at components c = get_or components c (Sequence no_fill None false)
 abbrev pub place_at : List Place → ℕ → Place
 place_at places c = get_or places c (record { document = 0; at = 0 })
 
--- a component of this kind can have these parts: a complex element its content, a hidden group that group, and any other element none
+-- each key of a choice leads to one of so many branches
+abbrev pub HasBranches : ℕ → Option Dispatch → Type 0
+HasBranches count None = Unit {0}
+HasBranches count (Some dispatch) = All (λ key. key.branch < count) dispatch.keys
+
+-- a component of this kind can have these parts: a complex element its content, a hidden group that group, and any other element none; the keys
+-- of a choice lead to parts of it
 abbrev pub CanHave : Component → List ℕ → Type 0
 CanHave (Sequence framing separated initiated) parts = Unit {0}
-CanHave (Choice framing initiated) parts = Unit {0}
+CanHave (Choice framing initiated dispatch) parts = HasBranches (length parts) dispatch
 CanHave (ComplexElement name framing box occurs often) parts = length parts ≡ 1
 CanHave (SimpleElement name simple prim framing own_length tried scanned occurs often) parts = parts ≡ []
 CanHave (CalculatedElement name simple statement framing) parts = parts ≡ []
@@ -78,7 +91,7 @@ HasBoxPrimitive count (Measured measure) = Unit {0}
 -- and those of length prefixes; a calculated value is read by none
 abbrev pub HasPrimitive : ℕ → Component → Type 0
 HasPrimitive count (Sequence framing separated initiated) = Unit {0}
-HasPrimitive count (Choice framing initiated) = Unit {0}
+HasPrimitive count (Choice framing initiated dispatch) = Unit {0}
 HasPrimitive count (ComplexElement name framing box occurs often) = HasBoxPrimitive count box
 HasPrimitive count (SimpleElement name simple prim framing own_length tried scanned occurs often) = (prim < count) × HasPrefixPrimitive count own_length × AreWithin count tried
 HasPrimitive count (CalculatedElement name simple statement framing) = Unit {0}
@@ -87,7 +100,7 @@ HasPrimitive count Hidden = Unit {0}
 -- what frames the content of a component
 abbrev pub framing_in : Component → Framing
 framing_in (Sequence framing separated initiated) = framing
-framing_in (Choice framing initiated) = framing
+framing_in (Choice framing initiated dispatch) = framing
 framing_in (ComplexElement name framing box occurs often) = framing
 framing_in (SimpleElement name simple prim framing own_length tried scanned occurs often) = framing
 framing_in (CalculatedElement name simple statement framing) = framing
@@ -101,7 +114,7 @@ HasList count (Some delimiter) = delimiter.list < count
 -- the separators in the content of a component, where it is a sequence with some
 abbrev pub separated_in : Component → Option Separated
 separated_in (Sequence framing separated initiated) = separated
-separated_in (Choice framing initiated) = None
+separated_in (Choice framing initiated dispatch) = None
 separated_in (ComplexElement name framing box occurs often) = None
 separated_in (SimpleElement name simple prim framing own_length tried scanned occurs often) = None
 separated_in (CalculatedElement name simple statement framing) = None
@@ -120,7 +133,7 @@ HasDelimiters count component =
 -- the statement that calculates the value of a component, where one does, is one of so many
 abbrev pub HasCalculation : ℕ → Component → Type 0
 HasCalculation count (Sequence framing separated initiated) = Unit {0}
-HasCalculation count (Choice framing initiated) = Unit {0}
+HasCalculation count (Choice framing initiated dispatch) = Unit {0}
 HasCalculation count (ComplexElement name framing box occurs often) = Unit {0}
 HasCalculation count (SimpleElement name simple prim framing own_length tried scanned occurs often) = Unit {0}
 HasCalculation count (CalculatedElement name simple statement framing) = statement < count
@@ -139,25 +152,34 @@ HasLeafQuestion count leaf_length.Own = Unit {0}
 HasLeafQuestion count (leaf_length.Prefixed prefix) = Unit {0}
 HasLeafQuestion count (leaf_length.Measured measure) = measure.question < count
 
--- the questions of a component are some of so many statements: that which tells how long its content is, and that which tells how often it
--- occurs
+-- so is that which tells the key of a choice
+abbrev pub HasKeyQuestion : ℕ → Option Dispatch → Type 0
+HasKeyQuestion count None = Unit {0}
+HasKeyQuestion count (Some dispatch) = dispatch.question < count
+
+-- the questions of a component are some of so many statements: that which tells how long its content is, that which tells how often it occurs,
+-- and that which tells the key of a choice
 abbrev pub HasQuestions : ℕ → Component → Type 0
 HasQuestions count (Sequence framing separated initiated) = Unit {0}
-HasQuestions count (Choice framing initiated) = Unit {0}
+HasQuestions count (Choice framing initiated dispatch) = HasKeyQuestion count dispatch
 HasQuestions count (ComplexElement name framing box occurs often) = HasBoxQuestion count box × IsWithin count (question_of often)
 HasQuestions count (SimpleElement name simple prim framing own_length tried scanned occurs often) = HasLeafQuestion count own_length × IsWithin count (question_of often)
 HasQuestions count (CalculatedElement name simple statement framing) = Unit {0}
 HasQuestions count Hidden = Unit {0}
 
--- the statements of a component are some of so many: those before it and behind it, that which calculates its value, and its questions
+-- what frames the content of a component names some of so many statements: tests, openings, settings, and those behind it
+abbrev pub HasFramingStatements : ℕ → Framing → Type 0
+HasFramingStatements count framing =
+    AreStatements count framing.before × AreStatements count framing.openings × AreStatements count framing.settings × AreStatements count framing.behind
+
+-- the statements of a component are some of so many: those that frame it, that which calculates its value, and its questions
 abbrev pub HasStatements : ℕ → Component → Type 0
-HasStatements count component =
-    AreStatements count (framing_in component).before × AreStatements count (framing_in component).behind × HasCalculation count component × HasQuestions count component
+HasStatements count component = HasFramingStatements count (framing_in component) × HasCalculation count component × HasQuestions count component
 
 -- the box around the content of a component
 abbrev pub box_in : Component → ContentBox
 box_in (Sequence framing separated initiated) = Unbounded
-box_in (Choice framing initiated) = Unbounded
+box_in (Choice framing initiated dispatch) = Unbounded
 box_in (ComplexElement name framing box occurs often) = box
 box_in (SimpleElement name simple prim framing own_length tried scanned occurs often) = Unbounded
 box_in (CalculatedElement name simple statement framing) = Unbounded
@@ -166,7 +188,7 @@ box_in Hidden = Unbounded
 -- what gives the length of the content of a simple element; other components have none to be given
 abbrev pub length_in : Component → LeafLength
 length_in (Sequence framing separated initiated) = leaf_length.Own
-length_in (Choice framing initiated) = leaf_length.Own
+length_in (Choice framing initiated dispatch) = leaf_length.Own
 length_in (ComplexElement name framing box occurs often) = leaf_length.Own
 length_in (SimpleElement name simple prim framing own_length tried scanned occurs often) = own_length
 length_in (CalculatedElement name simple statement framing) = leaf_length.Own
@@ -175,7 +197,7 @@ length_in Hidden = leaf_length.Own
 -- how often a component occurs where it stands in a group
 abbrev pub occurs_in : Component → Occurs
 occurs_in (Sequence framing separated initiated) = occurs_once
-occurs_in (Choice framing initiated) = occurs_once
+occurs_in (Choice framing initiated dispatch) = occurs_once
 occurs_in (ComplexElement name framing box occurs often) = occurs
 occurs_in (SimpleElement name simple prim framing own_length tried scanned occurs often) = occurs
 occurs_in (CalculatedElement name simple statement framing) = occurs_once
@@ -184,7 +206,7 @@ occurs_in Hidden = occurs_once
 -- the question that tells how often a component occurs, where one does
 abbrev pub question_in : Component → Option ℕ
 question_in (Sequence framing separated initiated) = None
-question_in (Choice framing initiated) = None
+question_in (Choice framing initiated dispatch) = None
 question_in (ComplexElement name framing box occurs often) = question_of often
 question_in (SimpleElement name simple prim framing own_length tried scanned occurs often) = question_of often
 question_in (CalculatedElement name simple statement framing) = None
@@ -193,7 +215,7 @@ question_in Hidden = None
 -- a component is a choice
 abbrev pub is_choice : Component → Bool
 is_choice (Sequence framing separated initiated) = false
-is_choice (Choice framing initiated) = true
+is_choice (Choice framing initiated dispatch) = true
 is_choice (ComplexElement name framing box occurs often) = false
 is_choice (SimpleElement name simple prim framing own_length tried scanned occurs often) = false
 is_choice (CalculatedElement name simple statement framing) = false
@@ -202,7 +224,7 @@ is_choice Hidden = false
 -- a component is a hidden group
 abbrev pub is_hidden : Component → Bool
 is_hidden (Sequence framing separated initiated) = false
-is_hidden (Choice framing initiated) = false
+is_hidden (Choice framing initiated dispatch) = false
 is_hidden (ComplexElement name framing box occurs often) = false
 is_hidden (SimpleElement name simple prim framing own_length tried scanned occurs often) = false
 is_hidden (CalculatedElement name simple statement framing) = false
@@ -211,17 +233,18 @@ is_hidden Hidden = true
 -- the value of a component is calculated
 abbrev pub is_calculated : Component → Bool
 is_calculated (Sequence framing separated initiated) = false
-is_calculated (Choice framing initiated) = false
+is_calculated (Choice framing initiated dispatch) = false
 is_calculated (ComplexElement name framing box occurs often) = false
 is_calculated (SimpleElement name simple prim framing own_length tried scanned occurs often) = false
 is_calculated (CalculatedElement name simple statement framing) = true
 is_calculated Hidden = false
 
 -- there is neither a statement nor fill nor a delimiter nor a box around the content of a component, no separator in it, and neither a length prefix
--- before it nor an expression that gives its length, it is no choice and no hidden group, and it occurs no more than once, and no occurrence of it is
--- tried or told by an expression; its value isn't calculated
+-- before it nor an expression that gives its length, no instance of a variable is open in it, it is no choice and no hidden group, and it occurs no more
+-- than once, and no occurrence of it is tried or told by an expression; its value isn't calculated
 pub record IsBareComponent (component : Component) : Type 0 where
   pub unframed : has_framing (framing_in component) ≡ false
+  pub unopened : (framing_in component).openings.count ≡ 0
   pub unconcluded : (framing_in component).behind.count ≡ 0
   pub unboxed : box_in component ≡ Unbounded
   pub unmeasured : length_in component ≡ leaf_length.Own

@@ -8,7 +8,7 @@ use Rattle.dfdl_rows.specs.declared.component.Component.TheVariants.{Sequence, C
 -- one for an element
 abbrev pub own_depth : Component → ℕ
 own_depth (Sequence framing separated initiated) = 0
-own_depth (Choice framing initiated) = 0
+own_depth (Choice framing initiated dispatch) = 0
 own_depth (ComplexElement name framing box occurs often) = 1
 own_depth (SimpleElement name simple prim framing own_length tried scanned occurs often) = 1
 own_depth (CalculatedElement name simple statement framing) = 1

@@ -6,7 +6,7 @@ use Rattle.dfdl_terms.specs.Leaves.{ReadsBy}
 use Rattle.dfdl_terms.specs.declared.framing.Framing.{Framing}
 use Rattle.dfdl_terms.specs.declared.occurs.Occurs.{Occurs}
 use Rattle.dfdl_terms.specs.declared.row.Row.{Row}
-use Rattle.dfdl_terms.specs.declared.row.Row.TheVariants.{Leaf, Elem, Group, Skip, Align, Initiator, Terminator, Separator, Scope, Boxed, PrefixedLeaf, PrefixedBox, MeasuredLeaf, MeasuredBox, Repeat, Counted as CountedRow, Optional, Choice, Dispatch, Statement, Concluded, Hidden, Separated}
+use Rattle.dfdl_terms.specs.declared.row.Row.TheVariants.{Leaf, Elem, Group, Skip, Align, Initiator, Terminator, Separator, Scope, Boxed, PrefixedLeaf, PrefixedBox, MeasuredLeaf, MeasuredBox, Repeat, Counted as CountedRow, Optional, Choice, Dispatch, Statement, Concluded, Hidden, Spanned, Instance, Separated}
 use Rattle.dfdl_terms.specs.declared.statement.Statements.{Statements}
 use Rattle.dfdl_rows.specs.declared.component.Counted.{Counted}
 use Rattle.dfdl_rows.specs.declared.component.LeafLength.{LeafLength}
@@ -55,6 +55,8 @@ IsLeafOf components simple (Some (Dispatch question keys)) = ⊥
 IsLeafOf components simple (Some (Statement statement)) = ⊥
 IsLeafOf components simple (Some (Concluded behind body)) = ⊥
 IsLeafOf components simple (Some (Hidden body)) = ⊥
+IsLeafOf components simple (Some (Spanned body)) = ⊥
+IsLeafOf components simple (Some (Instance statement body)) = ⊥
 IsLeafOf components simple (Some (Separated policy position initiated slots)) = ⊥
 IsLeafOf components simple None = ⊥
 

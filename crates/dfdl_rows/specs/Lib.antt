@@ -5,7 +5,6 @@ pub mod Apart
 pub mod Slots
 pub mod Boxes
 pub mod Components
-pub mod LeftOut
 pub mod Refusals
 pub mod Looking
 pub mod Depths

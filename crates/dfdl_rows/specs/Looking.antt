@@ -18,7 +18,7 @@ use Rattle.dfdl_rows.specs.declared.refusal.Refusal.{Refusal}
 -- a component is an element
 abbrev pub is_element : Component → Bool
 is_element (Sequence framing separated initiated) = false
-is_element (Choice framing initiated) = false
+is_element (Choice framing initiated dispatch) = false
 is_element (ComplexElement name framing box occurs often) = true
 is_element (SimpleElement name simple prim framing own_length tried scanned occurs often) = true
 is_element (CalculatedElement name simple statement framing) = true
@@ -27,7 +27,7 @@ is_element Hidden = false
 -- a component is none
 abbrev pub is_plain : Component → Bool
 is_plain (Sequence framing separated initiated) = true
-is_plain (Choice framing initiated) = true
+is_plain (Choice framing initiated dispatch) = true
 is_plain (ComplexElement name framing box occurs often) = false
 is_plain (SimpleElement name simple prim framing own_length tried scanned occurs often) = false
 is_plain (CalculatedElement name simple statement framing) = false

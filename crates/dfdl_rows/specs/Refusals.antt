@@ -4,11 +4,10 @@
 use Rattle.std.specs.Prelude.{ℕ, Bool, List, [], ◌∷◌, ◌++◌, get_or, Option, None, Some, if◌then◌else◌}
 use Rattle.std.specs.List.{list_any}
 use Rattle.std.specs.Str.{bytes_eq}
-use Rattle.dfdl_report.specs.declared.cause.SchemaCause.TheVariants.{ElementTwice, OutsideSubset}
+use Rattle.dfdl_report.specs.declared.cause.SchemaCause.TheVariants.{ElementTwice}
 use Rattle.dfdl_report.specs.declared.place.Place.{Place}
 use Rattle.dfdl_order.specs.Folds.{value_by}
 use Rattle.dfdl_rows.specs.Components.{Schema, component_at, place_at}
-use Rattle.dfdl_rows.specs.LeftOut.{is_overfull}
 use Rattle.dfdl_rows.specs.declared.component.Component.{Component}
 use Rattle.dfdl_rows.specs.declared.component.Component.TheVariants.{Sequence, Choice, ComplexElement, SimpleElement, CalculatedElement, Hidden}
 use Rattle.dfdl_rows.specs.declared.refusal.Refusal.{Refusal}
@@ -69,24 +68,15 @@ at_element place name inside names =
 -- a component that isn't refused by itself, where its parts are looked at so
 abbrev pub at_component : Component → Place → List Look → Look
 at_component (Sequence framing separated initiated) place parts = in_order parts
-at_component (Choice framing initiated) place parts = in_branches parts
+at_component (Choice framing initiated dispatch) place parts = in_branches parts
 at_component (ComplexElement name framing box occurs often) place parts = at_element place name (in_order parts)
 at_component (SimpleElement name simple prim framing own_length tried scanned occurs often) place parts = at_element place name (in_order parts)
 at_component (CalculatedElement name simple statement framing) place parts = at_element place name (in_order parts)
 at_component Hidden place parts = in_order parts
 
--- the refusal of a sequence that has a part that it can't hold
-unfoldable pub overfull : Schema → ℕ → Option Refusal
-overfull s c = if is_overfull s c then Some (record { cause = OutsideSubset; place = place_at s.places c }) else None
-
--- the first of two refusals, where there is one
-abbrev pub refusal_or : Option Refusal → Option Refusal → Option Refusal
-refusal_or (Some refusal) other = Some refusal
-refusal_or None other = other
-
--- the refusal of a component's own: that which is given, and else that of a part that it can't hold
+-- the refusal of a component's own
 abbrev pub own_refusal : Schema → ℕ → Option Refusal
-own_refusal s c = refusal_or (get_or s.refusals c None) (overfull s c)
+own_refusal s c = get_or s.refusals c None
 
 -- a refusal of a component's own ends it before all else
 abbrev pub unless_refused : Option Refusal → Look → Look

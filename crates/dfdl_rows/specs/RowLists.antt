@@ -8,10 +8,10 @@ use Rattle.dfdl_terms.specs.declared.representations.Representations.{Representa
 use Rattle.dfdl_terms.specs.declared.row.Row.{Row}
 use Rattle.dfdl_terms.specs.declared.row.Row.TheVariants.{Leaf, Elem, PrefixedLeaf, MeasuredLeaf, Statement, Hidden as HiddenRow}
 use Rattle.dfdl_rows.specs.Components.{Schema, component_at, no_trials, slots_at}
-use Rattle.dfdl_rows.specs.Boxes.{box_rows, boxed_row, box_size}
-use Rattle.dfdl_rows.specs.Framing.{concluded, framed, framed_row}
+use Rattle.dfdl_rows.specs.Boxes.{box_row}
+use Rattle.dfdl_rows.specs.Framing.{concluded, framed, framed_row, opened}
 use Rattle.dfdl_rows.specs.Scopes.{list_of, scanned_list, scope_rows, scoped_row, scope_size}
-use Rattle.dfdl_rows.specs.Slots.{grouped, separator_list, slots_size}
+use Rattle.dfdl_rows.specs.Slots.{Kind, InOrder, grouped, kind_by, separator_list, slots_size}
 use Rattle.dfdl_rows.specs.declared.component.ContentBox.{ContentBox}
 use Rattle.dfdl_rows.specs.declared.component.LeafLength.{LeafLength}
 use Rattle.dfdl_rows.specs.declared.component.LeafLength.TheVariants as leaf_length
@@ -19,8 +19,6 @@ use Rattle.dfdl_rows.specs.declared.component.Separated.{Separated}
 use Rattle.dfdl_rows.specs.declared.times.Times.{Times}
 use Rattle.dfdl_rows.specs.declared.component.Component.{Component}
 use Rattle.dfdl_rows.specs.declared.component.Component.TheVariants.{Sequence, Choice, ComplexElement, SimpleElement, CalculatedElement, Hidden}
-use Rattle.dfdl_rows.specs.declared.slots.Grouping.{Grouping}
-use Rattle.dfdl_rows.specs.declared.slots.Grouping.TheVariants as grouping
 
 -- rows that are numbered from any number on
 abbrev pub Numbered : Type 0
@@ -42,7 +40,7 @@ element_rows name simple tried framing content first =
 -- the rows of a complex element around the row of its content, from a number on: that of a box, then those of an element
 abbrev pub boxed_rows : List ℕ → Framing → ContentBox → ℕ → ℕ → List Row
 boxed_rows name framing box content first =
-    box_rows box content ++ element_rows name None no_trials framing (boxed_row box content first) (first + box_size box)
+    box_row box content ∷ element_rows name None no_trials framing first (first + 1)
 
 -- rows around the row of a content, from a number on: that of the scope of a list, and others, which are around both
 abbrev pub scoped : Option ℕ → (ℕ → ℕ → List Row) → ℕ → ℕ → List Row
@@ -50,19 +48,19 @@ scoped list around content first =
     scope_rows list content ++ around (scoped_row list content first) (first + scope_size list)
 
 -- the rows of a sequence or choice around the row of its group, from a number on: that of the scope of its separators, that of the scope of its
--- terminator, and those that frame it
+-- terminator, and those that frame it, with the instances that are open in it
 abbrev pub sequence_rows : Framing → Option ℕ → ℕ → ℕ → List Row
-sequence_rows framing separators = scoped separators (scoped (list_of framing.terminator) (framed framing separators))
+sequence_rows framing separators = scoped separators (scoped (list_of framing.terminator) (opened framing separators))
 
 -- the rows of a sequence or choice of its own, from a number on, where these are the last rows of its parts, which occur so often, but for
 -- the one behind which statements are done: those of its group, and those around it
-abbrev pub around_rows : Grouping → Framing → Option Separated → Bool → List Times → List ℕ → ℕ → List Row
+abbrev pub around_rows : Kind → Framing → Option Separated → Bool → List Times → List ℕ → ℕ → List Row
 around_rows kind framing separated initiated slots parts first =
     grouped kind initiated separated slots parts first
     ++ sequence_rows framing (separator_list separated) (first + slots_size separated slots) (first + slots_size separated slots + 1)
 
 -- all rows of a sequence or choice of its own: these, and around all of them that behind which statements are done, where there are some
-abbrev pub group_rows : Grouping → Framing → Option Separated → Bool → List Times → List ℕ → ℕ → List Row
+abbrev pub group_rows : Kind → Framing → Option Separated → Bool → List Times → List ℕ → ℕ → List Row
 group_rows kind framing separated initiated slots parts first =
     concluded framing.behind (around_rows kind framing separated initiated slots parts first) first
 
@@ -72,8 +70,8 @@ group_rows kind framing separated initiated slots parts first =
 -- that of a box around this, then those that frame it, and for an element its own; for an element whose value is calculated the row of the
 -- statement that does it stands in place of a content; and for a hidden group that which hides it
 abbrev pub own_rows : Component → List Times → List ℕ → ℕ → List Row
-own_rows (Sequence framing separated initiated) slots parts first = group_rows grouping.Sequence framing separated initiated slots parts first
-own_rows (Choice framing initiated) slots parts first = group_rows grouping.Choice framing None initiated slots parts first
+own_rows (Sequence framing separated initiated) slots parts first = group_rows InOrder framing separated initiated slots parts first
+own_rows (Choice framing initiated dispatch) slots parts first = group_rows (kind_by dispatch) framing None initiated slots parts first
 own_rows (ComplexElement name framing box occurs often) slots parts first =
     scoped (list_of framing.terminator) (boxed_rows name framing box) (get_or parts 0 0) first
 own_rows (SimpleElement name simple prim framing own_length tried scanned occurs often) slots parts first =

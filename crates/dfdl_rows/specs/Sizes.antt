@@ -3,8 +3,7 @@ use Rattle.std.specs.Prelude.{ℕ, ◌+◌, List, [], ◌∷◌, Option, None}
 use Rattle.dfdl_order.specs.Folds.{value_by}
 use Rattle.dfdl_terms.specs.declared.framing.Framing.{Framing}
 use Rattle.dfdl_rows.specs.Components.{Schema, component_at, slots_at}
-use Rattle.dfdl_rows.specs.Boxes.{box_size}
-use Rattle.dfdl_rows.specs.Framing.{conclusion_size, framing_size}
+use Rattle.dfdl_rows.specs.Framing.{conclusion_size, framing_size, opened_size}
 use Rattle.dfdl_rows.specs.Scopes.{list_of, scanned_list, scope_size}
 use Rattle.dfdl_rows.specs.Slots.{separator_list, slots_size}
 use Rattle.dfdl_rows.specs.declared.component.Separated.{Separated}
@@ -13,18 +12,18 @@ use Rattle.dfdl_rows.specs.declared.component.Component.{Component}
 use Rattle.dfdl_rows.specs.declared.component.Component.TheVariants.{Sequence, Choice, ComplexElement, SimpleElement, CalculatedElement, Hidden}
 
 -- the rows of a sequence or choice that are not its parts', which occur so often: those of separators, of scopes, of what frames its
--- content and of what is done behind it among them, and those that repeat and try its parts
+-- content, of instances and of what is done behind it among them, and those that repeat and try its parts
 abbrev pub group_size : Framing → Option Separated → List Times → ℕ
 group_size framing separated slots =
     1 + slots_size separated slots + scope_size (separator_list separated) + scope_size (list_of framing.terminator)
-    + framing_size framing (separator_list separated) + conclusion_size framing.behind
+    + opened_size framing (separator_list separated) + conclusion_size framing.behind
 
 -- the rows of a component that are not its parts', which occur so often: for an element those of the scope of its terminator, of a box
 -- and of what frames its content among them
 abbrev pub own_size : Component → List Times → ℕ
 own_size (Sequence framing separated initiated) slots = group_size framing separated slots
-own_size (Choice framing initiated) slots = group_size framing None slots
-own_size (ComplexElement name framing box occurs often) slots = 1 + scope_size (list_of framing.terminator) + box_size box + framing_size framing None
+own_size (Choice framing initiated dispatch) slots = group_size framing None slots
+own_size (ComplexElement name framing box occurs often) slots = 2 + scope_size (list_of framing.terminator) + framing_size framing None
 own_size (SimpleElement name simple prim framing own_length tried scanned occurs often) slots =
     2 + scope_size (scanned_list scanned framing.terminator) + framing_size framing None
 own_size (CalculatedElement name simple statement framing) slots = 2 + framing_size framing None

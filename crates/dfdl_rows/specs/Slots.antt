@@ -1,14 +1,17 @@
 -- The slots of a group, the separators at them, and the rows that repeat elements there, and those that try them ('Sequence Groups',
--- 'Arrays and Optional Elements'). Separators are rows of their own where all occurrences are required; else Apart says what the sequence is.
-use Rattle.std.specs.Prelude.{ℕ, ◌+◌, ◌-◌, Bool, true, false, ◌&&◌, ◌||◌, nat_lt, List, [], ◌∷◌, ◌++◌, length, get_or, Option, None, Some, option_map, if◌then◌else◌}
+-- 'Arrays and Optional Elements'). Separators are rows of their own where all occurrences are required by bounds; else Apart says what the sequence is.
+use Rattle.std.specs.Prelude.{ℕ, ◌+◌, ◌-◌, Bool, true, false, ◌&&◌, ◌||◌, nat_lt, List, [], ◌∷◌, ◌++◌, length, get_or, map, Option, None, Some, option_map, if◌then◌else◌}
 use Rattle.dfdl_separators.specs.declared.policy.SeparatorPosition.{SeparatorPosition}
 use Rattle.dfdl_separators.specs.declared.policy.SeparatorPosition.TheVariants.{Prefix, Infix, Postfix}
 use Rattle.dfdl_terms.specs.declared.framing.Framing.{Framing}
+use Rattle.dfdl_terms.specs.declared.keys.Key.{Key}
 use Rattle.dfdl_terms.specs.declared.row.Row.{Row}
-use Rattle.dfdl_terms.specs.declared.row.Row.TheVariants.{Group, Repeat, Counted as CountedRow, Separator, Optional, Choice as Chosen}
+use Rattle.dfdl_terms.specs.declared.row.Row.TheVariants.{Group, Repeat, Counted as CountedRow, Separator, Optional, Choice as Chosen, Dispatch as Dispatched}
 use Rattle.dfdl_rows.specs.Framing.{has_framing}
+use Rattle.dfdl_rows.specs.declared.component.BranchKey.{BranchKey}
 use Rattle.dfdl_rows.specs.declared.component.Component.{Component}
 use Rattle.dfdl_rows.specs.declared.component.Component.TheVariants.{Sequence, Choice, ComplexElement, SimpleElement, CalculatedElement, Hidden}
+use Rattle.dfdl_rows.specs.declared.component.Dispatch.{Dispatch}
 use Rattle.dfdl_rows.specs.declared.component.Separated.{Separated}
 use Rattle.dfdl_rows.specs.declared.times.Times.{Times}
 use Rattle.dfdl_rows.specs.Times.{has_tried, required_times, times_of}
@@ -26,7 +29,7 @@ slots_of_group framing (part ∷ parts) = 1
 -- element whose value is calculated has no slot
 abbrev pub slots_of : Component → List ℕ → Times
 slots_of (Sequence framing separated initiated) parts = required_times (slots_of_group framing parts)
-slots_of (Choice framing initiated) parts = required_times (slots_of_group framing parts)
+slots_of (Choice framing initiated dispatch) parts = required_times (slots_of_group framing parts)
 slots_of (ComplexElement name framing box occurs often) parts = times_of occurs often
 slots_of (SimpleElement name simple prim framing own_length tried scanned occurs often) parts = times_of occurs often
 slots_of (CalculatedElement name simple statement framing) parts = required_times 0
@@ -223,18 +226,39 @@ slots_size separated slots = size_by (apart separated slots) separated slots
 abbrev pub separator_list : Option Separated → Option ℕ
 separator_list separated = option_map (λ own. own.list) separated
 
+-- what a group is: a sequence, a choice whose branches are tried, or one whose branch a key tells
+pub data Kind : Type 0 where
+  InOrder : Kind
+  OneTried : Kind
+  OneByKey : Dispatch → Kind
+
+-- a choice
+abbrev pub kind_by : Option Dispatch → Kind
+kind_by None = OneTried
+kind_by (Some dispatch) = OneByKey dispatch
+
+-- a sequence or a choice
+abbrev pub kind_of : Grouping → Option Dispatch → Kind
+kind_of grouping.Sequence dispatch = InOrder
+kind_of grouping.Choice dispatch = kind_by dispatch
+
+-- a key with the row that stands for its branch, of these rows of the branches
+abbrev pub key_of : List ℕ → BranchKey → Key
+key_of branches key = record { text = key.text; body = get_or branches key.branch 0 }
+
 -- the row of a group of rows, by what they are in it; initiators tell what stands in it, or don't
-abbrev pub row_of : Grouping → Bool → List ℕ → Row
-row_of grouping.Sequence initiated children = Group children
-row_of grouping.Choice initiated children = Chosen children initiated
+abbrev pub row_of : Kind → Bool → List ℕ → Row
+row_of InOrder initiated children = Group children
+row_of OneTried initiated children = Chosen children initiated
+row_of (OneByKey dispatch) initiated children = Dispatched dispatch.question (map (key_of children) dispatch.keys)
 
 -- the rows of a group from a number on, where the sequence is one row of slots with these separators, or isn't
-abbrev pub grouped_by : Option Separated → Grouping → Bool → Option Separated → List Times → List ℕ → ℕ → List Row
+abbrev pub grouped_by : Option Separated → Kind → Bool → Option Separated → List Times → List ℕ → ℕ → List Row
 grouped_by None kind initiated separated slots parts first =
     (laid_of initiated separated slots parts first).rows ++ row_of kind initiated (laid_of initiated separated slots parts first).children ∷ []
 grouped_by (Some own) kind initiated separated slots parts first = apart_row initiated slots parts own ∷ []
 
 -- the rows of a group from a number on, where these are the last rows of its parts, which occur so often: those of its separators and those
--- that repeat and try parts, and its own; a sequence with separators some of whose occurrences are tried has its own alone
-unfoldable pub grouped : Grouping → Bool → Option Separated → List Times → List ℕ → ℕ → List Row
+-- that repeat and try parts, and its own; a sequence with separators some of whose occurrences are tried or told has its own alone
+unfoldable pub grouped : Kind → Bool → Option Separated → List Times → List ℕ → ℕ → List Row
 grouped kind initiated separated slots parts first = grouped_by (apart separated slots) kind initiated separated slots parts first

@@ -1,5 +1,5 @@
 -- How often a part occurs in the group that it stands in.
-use Rattle.std.specs.Prelude.{ℕ, Bool, true, false, ◌||◌, nat_lt, List, Option, None, Some, is_some}
+use Rattle.std.specs.Prelude.{ℕ, Bool, true, false, not, ◌||◌, nat_lt, List, Option, None, Some, is_some}
 use Rattle.std.specs.List.{list_any}
 use Rattle.dfdl_terms.specs.declared.occurs.Occurs.{Occurs}
 use Rattle.dfdl_rows.specs.declared.component.Counted.{Counted}
@@ -46,6 +46,6 @@ is_told n = is_some n.question
 abbrev pub have_told : List Times → Bool
 have_told slots = list_any is_told slots
 
--- there is an occurrence, as far as no question tells that: the part has a slot
-abbrev pub has_slot : Times → Bool
-has_slot n = nat_lt 0 n.least || nat_lt 0 n.further
+-- the part has no slot: it has no occurrence that is required, none that is tried, and no question tells how many there are
+abbrev pub is_slotless : Times → Bool
+is_slotless n = not (nat_lt 0 n.least || has_tried n || is_told n)

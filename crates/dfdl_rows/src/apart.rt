@@ -1,18 +1,24 @@
-// The row of a sequence with separators, some of whose occurrences are tried.
-ghost use Rattle.std.specs.Prelude.{◌≡◌, ◌<◌, ◌+◌, ◌^◌, ◌++◌, get_or, length, IfOk, OnOk};
+// The row of a sequence with separators, some of whose occurrences are tried or told by a question.
+ghost use Rattle.std.specs.Prelude.{◌≡◌, ◌<◌, ◌+◌, ◌^◌, ◌++◌, ◌∷◌, [], get_or, length, IfOk, OnOk};
 ghost use Rattle.dfdl_rows.specs.Apart as spec;
 
 use crate::component::Separated;
-use crate::times::{Times, has_slot, have_tried};
+use crate::times::{Times, have_told, have_tried, is_slotless};
 use dfdl_terms::{Row, RowId, Slot, SlotList};
 use std::alloc::{AllocError, Global};
 
-/// The separators of a sequence, where it has some and some of the occurrences of its parts are tried.
+/// The separators of a sequence, where it has some and some of the occurrences of its parts are tried or told by a question.
 pub(crate) fn apart(separated: Option<Separated>, slots: &[Times]) -> Option<Separated>
     ensures { result ≡ spec.apart separated slots.now }
 {
     match separated {
-        Some(own) => { if have_tried(slots) { Some(own) } else { None } }
+        Some(own) => {
+            if have_tried(slots) || have_told(slots) {
+                Some(own)
+            } else {
+                None
+            }
+        }
         None => None,
     }
 }
@@ -28,19 +34,18 @@ pub(crate) fn part_at(parts: &[RowId], at: usize) -> RowId
     }
 }
 
-// Adds the slot of a part, where it has one.
+// Adds the slot of a part.
 fn push_slot(slots: &mut Vec<Slot>, times: Times, part: RowId) -> Result<(), AllocError>
-    ensures { OnOk result (slots.new.items ≡ slots.old.items ++ spec.slot_if times part) }
+    ensures { OnOk result (slots.new.items ≡ slots.old.items ++ spec.slot_of times part ∷ []) }
 {
-    if !has_slot(times) {
-        return Ok(());
-    }
     slots.push(Slot {
         body: part,
         least: times.least,
         further: times.further,
         is_parsed: times.is_parsed,
         is_item: times.is_item,
+        question: times.question,
+        is_slotless: is_slotless(times),
     })?;
     Ok(())
 }

@@ -2,6 +2,7 @@ use dfdl_forms::Simple;
 use dfdl_separators::{SeparatorPosition, SeparatorSuppressionPolicy};
 use dfdl_terms::{Framing, Measure, Occurs, Prefix, Representations};
 use dfdl_value::TextValue;
+use std::marker::Model;
 
 /// The box around a content ('Lengths').
 #[derive(Debug, Clone, Copy, PartialEq, Eq)]
@@ -49,6 +50,54 @@ pub struct Separated {
     pub policy: SeparatorSuppressionPolicy,
 }
 
+/// A text by which a branch of a choice is taken ('Choices', choiceBranchKey).
+#[derive(Debug, Drop)]
+pub struct BranchKey {
+    /// The place of the branch among the parts of the choice, from 0.
+    pub branch: u32,
+    pub text: TextValue,
+}
+
+/// Keys in the order of the branches. A contract sees them as their list.
+#[derive(Debug, Drop)]
+pub struct BranchKeys {
+    keys: Vec<BranchKey>,
+}
+
+impl Model for BranchKeys {
+    ghost use Rattle.std.specs.Prelude.{List};
+    ghost use Rattle.dfdl_rows.specs.declared.component.BranchKey.{BranchKey as KeyOf};
+
+    ghost Value = { List KeyOf };
+
+    ghost view = { λ k. k.keys.items };
+}
+
+impl BranchKeys {
+    ghost use Rattle.std.specs.Prelude.{◌≡◌};
+
+    /// Takes the keys as they are, and no memory.
+    pub fn from_vec(keys: Vec<BranchKey>) -> BranchKeys
+        ensures { result ≡ keys.items }
+    {
+        BranchKeys { keys }
+    }
+
+    pub fn as_slice(&self) -> &[BranchKey]
+        ensures { result.now ≡ self.now }
+    {
+        self.keys.as_slice()
+    }
+}
+
+/// How a choice is decided by a key ('Choices', choiceDispatchKey).
+#[derive(Debug, Drop)]
+pub struct Dispatch {
+    /// The number in the tables of the question that tells the key.
+    pub question: u32,
+    pub keys: BranchKeys,
+}
+
 /// What a schema component is, with what its own rows need. Its parts are other components.
 #[derive(Debug, Drop)]
 pub enum Component {
@@ -67,6 +116,8 @@ pub enum Component {
         framing: Framing,
         /// Initiators tell what stands in it ('Sequence Groups', on initiatedContent).
         initiated: bool,
+        /// How its branch is told, where its branches aren't tried.
+        dispatch: Option<Dispatch>,
     },
     /// An element whose one part is its content.
     ComplexElement {

@@ -3,19 +3,17 @@ ghost use Rattle.std.specs.Prelude.{◌≡◌, ◌<◌, ◌↔◌, length, All, 
 ghost use Rattle.dfdl_order.specs.Parts.{uses_of, IsOrder};
 ghost use Rattle.dfdl_terms.specs.Rows.{AreStatements, AreWithin, IsWithin};
 ghost use Rattle.dfdl_rows.specs.Components.{AreOfOne, CanHave, HasOrder, component_at, framing_in, place_at, separated_in, slots_at};
-ghost use Rattle.dfdl_rows.specs.LeftOut.{asks_slots, is_overfull, is_slotless, is_stated, leaves_out};
-ghost use Rattle.dfdl_rows.specs.Refusals.{overfull, own_refusal};
-ghost use Rattle.dfdl_rows.specs.Components.{HasPrimitive, HasBoxPrimitive, HasBoxQuestion, HasPrefixPrimitive, HasCalculation, HasDelimiters, HasLeafQuestion, HasList, HasQuestions, HasSeparators, HasStatements};
+ghost use Rattle.dfdl_rows.specs.Refusals.{own_refusal};
+ghost use Rattle.dfdl_rows.specs.Components.{HasBranches, HasPrimitive, HasBoxPrimitive, HasBoxQuestion, HasPrefixPrimitive, HasCalculation, HasDelimiters, HasFramingStatements, HasKeyQuestion, HasLeafQuestion, HasList, HasQuestions, HasSeparators, HasStatements};
 ghost use Rattle.dfdl_rows.specs.Slots as slots;
-ghost use Rattle.dfdl_rows.specs.Times.{has_tried, have_told, have_tried, is_told, question_of};
-ghost use Rattle.std.specs.List.{list_any};
+ghost use Rattle.dfdl_rows.specs.Times.{question_of};
 
-use crate::component::Separated;
+use crate::component::{BranchKey, Dispatch, Separated};
 use crate::framing::has_framing;
-use crate::times::{Times, has_slot, required_times, times_of};
+use crate::times::{Times, required_times, times_of};
 use crate::{Component, ContentBox, Counted, LeafLength, Refusal};
 use dfdl_order::{Order, Uses};
-use dfdl_report::{Place, SchemaCause};
+use dfdl_report::Place;
 use dfdl_terms::{Delimiter, Framing, Representations, Statements};
 use std::alloc::{AllocError, Global};
 use std::marker::Model;
@@ -118,124 +116,12 @@ impl Components {
         Ok(slots)
     }
 
-    /// The refusal of a component's own: that which is given, and else that of a part that it can't hold.
+    /// The refusal of a component's own.
     pub(crate) fn refusal(&self, number: u32) -> Option<Refusal>
         requires { number < length self.now.uses }
         ensures { result ≡ own_refusal self.now number }
     {
-        match self.refusals[number as usize] {
-            Some(refusal) => Some(refusal),
-            None => self.overfull(number),
-        }
-    }
-
-    // The refusal of a sequence that has a part that it can't hold.
-    #[tactic(auto, unfolding(crate::specs::Refusals::overfull))]
-    fn overfull(&self, number: u32) -> Option<Refusal>
-        requires { number < length self.now.uses }
-        ensures { result ≡ overfull self.now number }
-    {
-        if !self.is_overfull(number) {
-            return None;
-        }
-        Some(Refusal {
-            cause: SchemaCause::OutsideSubset,
-            place: self.place(number),
-        })
-    }
-
-    // Whether a sequence has a part that it can't hold.
-    fn is_overfull(&self, number: u32) -> bool
-        requires { number < length self.now.uses }
-        ensures { result ≡ is_overfull self.now number }
-    {
-        self.asks_slots(number) || self.leaves_out(number)
-    }
-
-    // Whether a question tells how often some part of a sequence with separators occurs.
-    #[tactic(auto, unfolding(crate::specs::LeftOut::asks_slots))]
-    fn asks_slots(&self, number: u32) -> bool
-        requires { number < length self.now.uses }
-        ensures { result ≡ asks_slots self.now number }
-    {
-        separated_in(self.component(number)).is_some() && self.is_told_in(number)
-    }
-
-    // Whether a question tells how often some part of a component occurs.
-    fn is_told_in(&self, number: u32) -> bool
-        requires { number < length self.now.uses }
-        ensures { result ≡ have_told (slots_at self.now number) }
-    {
-        for part in self.parts(number) {
-            if self.is_told(*part) {
-                return true;
-            }
-        }
-        false
-    }
-
-    // Whether a question tells how often a part occurs.
-    fn is_told(&self, part: u32) -> bool
-        requires { part < length self.now.uses }
-        ensures { result ≡ is_told (slots.slots_of (component_at self.now.components part) (uses_of self.now.uses part)) }
-    {
-        slots_of(self.component(part), self.parts(part))
-            .question
-            .is_some()
-    }
-
-    // Whether a sequence leaves out a part at which something is stated.
-    #[tactic(auto, unfolding(crate::specs::LeftOut::leaves_out))]
-    fn leaves_out(&self, number: u32) -> bool
-        requires { number < length self.now.uses }
-        ensures { result ≡ leaves_out self.now number }
-    {
-        separated_in(self.component(number)).is_some()
-            && self.is_tried_in(number)
-            && self.is_slotless_in(number)
-    }
-
-    // Whether some of the occurrences of some part of a component are tried.
-    fn is_tried_in(&self, number: u32) -> bool
-        requires { number < length self.now.uses }
-        ensures { result ≡ have_tried (slots_at self.now number) }
-    {
-        for part in self.parts(number) {
-            if self.is_tried(*part) {
-                return true;
-            }
-        }
-        false
-    }
-
-    // Whether some of the occurrences of a part are tried.
-    fn is_tried(&self, part: u32) -> bool
-        requires { part < length self.now.uses }
-        ensures { result ≡ has_tried (slots.slots_of (component_at self.now.components part) (uses_of self.now.uses part)) }
-    {
-        slots_of(self.component(part), self.parts(part)).further > 0
-    }
-
-    // Whether something is stated at some part of a component that has no slot.
-    fn is_slotless_in(&self, number: u32) -> bool
-        requires { number < length self.now.uses }
-        ensures { result ≡ list_any (is_slotless self.now) (uses_of self.now.uses number) }
-    {
-        for part in self.parts(number) {
-            if self.is_slotless(*part) {
-                return true;
-            }
-        }
-        false
-    }
-
-    // Whether something is stated at a part that has no slot.
-    fn is_slotless(&self, part: u32) -> bool
-        requires { part < length self.now.uses }
-        ensures { result ≡ is_slotless self.now part }
-    {
-        is_stated(self.component(part))
-            && !has_slot(slots_of(self.component(part), self.parts(part)))
+        self.refusals[number as usize]
     }
 
     /// Where a component begins.
@@ -268,20 +154,6 @@ pub fn are_of_one(
         }
     }
     true
-}
-
-// Whether something is stated at a component that takes no bits.
-fn is_stated(component: &Component) -> bool
-    ensures { result ≡ is_stated component.now }
-{
-    match component {
-        Component::Sequence { framing, .. } => framing.behind.count > 0,
-        Component::Choice { framing, .. } => framing.behind.count > 0,
-        Component::ComplexElement { .. } => false,
-        Component::SimpleElement { .. } => false,
-        Component::CalculatedElement { .. } => true,
-        Component::Hidden => false,
-    }
 }
 
 // How often a component with these parts occurs in the group that it stands in.
@@ -324,12 +196,32 @@ fn can_have(component: &Component, parts: &[u32]) -> bool
     ensures other { result ≡ false → CanHave component.now parts.now → ⊥ }
 {
     match component {
-        Component::Sequence { .. } | Component::Choice { .. } => true,
+        Component::Sequence { .. } => true,
+        Component::Choice { dispatch, .. } => has_branches(dispatch, parts.len()),
         Component::ComplexElement { .. } => parts.len() == 1,
         Component::SimpleElement { .. } => parts.is_empty(),
         Component::CalculatedElement { .. } => parts.is_empty(),
         Component::Hidden => parts.len() == 1,
     }
+}
+
+// Whether each key of a choice leads to one of so many branches.
+fn has_branches(dispatch: &Option<Dispatch>, count: usize) -> bool
+    ensures has { IsTrue result → HasBranches count dispatch.now }
+    ensures other { result ≡ false → HasBranches count dispatch.now → ⊥ }
+{
+    match dispatch {
+        Some(dispatch) => have_branches(dispatch.keys.as_slice(), count),
+        None => true,
+    }
+}
+
+// Whether each of these keys leads to one of so many branches.
+fn have_branches(keys: &[BranchKey], count: usize) -> bool
+    ensures have { IsTrue result → All (λ key. key.branch < count) keys.now }
+    ensures other { result ≡ false → All (λ key. key.branch < count) keys.now → ⊥ }
+{
+    keys.iter().all(|key| (key.branch as usize) < count)
 }
 
 /// Whether the primitives of each component are some of so many: those of simple elements and of length prefixes.
@@ -367,7 +259,9 @@ fn has_primitive(component: &Component, count: u32) -> bool
 fn has_tried_primitives(tried: Representations, count: u32) -> bool
     ensures { IsTrue result ↔ AreWithin count tried }
 {
-    is_within(tried.nil, count) && is_within(tried.empty, count)
+    is_within(tried.nil, count)
+        && is_within(tried.empty, count)
+        && is_within(tried.where_tried.empty, count)
 }
 
 // Whether a primitive, where there is one, is one of so many.
@@ -437,11 +331,19 @@ pub fn have_statements(components: &[Component], count: u32) -> bool
 fn has_statements(component: &Component, count: u32) -> bool
     ensures { IsTrue result ↔ HasStatements count component.now }
 {
-    let framing = framing_in(component);
-    are_statements(framing.before, count)
-        && are_statements(framing.behind, count)
+    has_framing_statements(framing_in(component), count)
         && has_calculation(component, count)
         && has_questions(component, count)
+}
+
+// Whether the statements of what frames the content of a component are some of so many.
+fn has_framing_statements(framing: Framing, count: u32) -> bool
+    ensures { IsTrue result ↔ HasFramingStatements count framing }
+{
+    are_statements(framing.before, count)
+        && are_statements(framing.openings, count)
+        && are_statements(framing.settings, count)
+        && are_statements(framing.behind, count)
 }
 
 // Whether these statements are some of so many.
@@ -471,7 +373,7 @@ fn has_questions(component: &Component, count: u32) -> bool
 {
     match component {
         Component::Sequence { .. } => true,
-        Component::Choice { .. } => true,
+        Component::Choice { dispatch, .. } => has_key_question(dispatch, count),
         Component::ComplexElement {
             content_box,
             counted,
@@ -484,6 +386,16 @@ fn has_questions(component: &Component, count: u32) -> bool
         } => { has_leaf_question(*length, count) && has_count_question(*counted, count) }
         Component::CalculatedElement { .. } => true,
         Component::Hidden => true,
+    }
+}
+
+// Whether the question that tells the key of a choice, where one does, is one of so many statements.
+fn has_key_question(dispatch: &Option<Dispatch>, count: u32) -> bool
+    ensures { IsTrue result ↔ HasKeyQuestion count dispatch.now }
+{
+    match dispatch {
+        Some(dispatch) => dispatch.question < count,
+        None => true,
     }
 }
 

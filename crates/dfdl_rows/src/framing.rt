@@ -1,15 +1,18 @@
-// The rows around the content of a component: statements, fill, its initiator and its terminator; and the row behind which statements are done.
-ghost use Rattle.std.specs.Prelude.{◌≡◌, ◌<◌, ◌≤◌, ◌+◌, ◌-◌, ◌^◌, ◌++◌, ◌∷◌, [], length, IfOk, OnOk};
+// The rows around the content of a component: statements, fill, its initiator and its terminator, and instances of variables; and the row behind
+// which statements are done.
+ghost use Rattle.std.specs.Prelude.{◌≡◌, ◌<◌, ◌≤◌, ◌+◌, ◌-◌, ◌^◌, ◌++◌, ◌∷◌, [], length, nat_lt, IfOk, OnOk};
 ghost use Rattle.dfdl_rows.specs.Framing as spec;
 
+use crate::last::push_last;
 use dfdl_terms::{Delimiter, Framing, Row, RowId, RowList, Statements};
 use std::alloc::{AllocError, Global};
 
-/// There is a statement before all, a skip, an alignment to more than one bit, an initiator or a terminator.
+/// There is a test of a pattern, what sets a variable, a skip, an alignment to more than one bit, an initiator or a terminator.
 pub(crate) fn has_framing(framing: Framing) -> bool
     ensures { result ≡ spec.has_framing framing }
 {
     framing.before.count > 0
+        || framing.settings.count > 0
         || framing.leading_skip > 0
         || framing.alignment > 1
         || framing.initiator.is_some()
@@ -55,10 +58,11 @@ fn initiator_size(initiator: Option<Delimiter>) -> u64
 // How many rows stand before a content.
 fn size_before(framing: Framing) -> u64
     ensures size { result ≡ length (spec.rows_before framing) }
-    ensures few { result < 2 ^ 32 + 3 }
+    ensures few { result < 2 ^ 33 + 3 }
 {
     let fill = skip_size(framing.leading_skip) + align_size(framing.alignment);
-    statements_size(framing.before) + fill + initiator_size(framing.initiator)
+    let stated = statements_size(framing.before) + statements_size(framing.settings);
+    stated + fill + initiator_size(framing.initiator)
 }
 
 // How many rows a terminator is behind a content with separators of a list, or with none.
@@ -84,7 +88,7 @@ fn size_behind(framing: Framing, separators: Option<u32>) -> u64
 /// How many rows frame a content.
 pub(crate) fn framing_size(framing: Framing, separators: Option<u32>) -> u64
     ensures size { result ≡ spec.framing_size framing separators }
-    ensures few { result < 2 ^ 32 + 6 }
+    ensures few { result < 2 ^ 33 + 6 }
 {
     if !has_framing(framing) {
         return 0;
@@ -211,6 +215,19 @@ fn push_before(
         ≡ group.old.items ++ spec.numbers (spec.rows_before framing) (length rows.old.items)) }
 {
     push_statements(rows, group, framing.before)?;
+    push_set(rows, group, framing)?;
+    Ok(())
+}
+
+// Adds the rows before a content that aren't tests of patterns.
+fn push_set(rows: &mut Vec<Row>, group: &mut Vec<RowId>, framing: Framing) -> Result<(), AllocError>
+    requires { length rows.old.items + length (spec.statement_rows framing.settings ++ spec.fill_rows framing) < 2 ^ 32 }
+    ensures rows { OnOk result (rows.new.items
+        ≡ rows.old.items ++ (spec.statement_rows framing.settings ++ spec.fill_rows framing)) }
+    ensures group { OnOk result (group.new.items
+        ≡ group.old.items ++ spec.numbers (spec.statement_rows framing.settings ++ spec.fill_rows framing) (length rows.old.items)) }
+{
+    push_statements(rows, group, framing.settings)?;
     push_fill(rows, group, framing)?;
     Ok(())
 }
@@ -273,6 +290,108 @@ pub(crate) fn push_framed(
         children: RowList::new(group),
     })?;
     Ok(whole)
+}
+
+// What frames a content but for its tests of patterns.
+fn untested(framing: Framing) -> Framing
+    ensures { result ≡ spec.untested framing }
+{
+    Framing {
+        before: Framing::none().before,
+        ..framing
+    }
+}
+
+// The tests of patterns alone.
+fn tests_alone(framing: Framing) -> Framing
+    ensures { result ≡ spec.tests_alone framing }
+{
+    Framing {
+        before: framing.before,
+        ..Framing::none()
+    }
+}
+
+// Whether instances are open in a content.
+fn has_openings(framing: Framing) -> bool
+    ensures { result ≡ nat_lt 0 framing.openings.count }
+{
+    framing.openings.count > 0
+}
+
+// How many rows stand around a content inside of which instances are open.
+fn instances_size(framing: Framing, separators: Option<u32>) -> u64
+    ensures size { result ≡ spec.instances_size framing separators }
+    ensures few { result < 2 ^ 36 }
+{
+    let inside = framing_size(untested(framing), separators);
+    let tests = framing_size(tests_alone(framing), None);
+    inside + u64::from(framing.openings.count) + tests
+}
+
+/// How many rows stand around the content of a sequence or choice.
+pub(crate) fn opened_size(framing: Framing, separators: Option<u32>) -> u64
+    ensures size { result ≡ spec.opened_size framing separators }
+    ensures few { result < 2 ^ 36 }
+{
+    if !has_openings(framing) {
+        return framing_size(framing, separators);
+    }
+    instances_size(framing, separators)
+}
+
+// Adds the rows of the instances that these statements open around the row of a content, and gives that of the outermost one.
+fn push_instances(
+    rows: &mut Vec<Row>,
+    openings: Statements,
+    content: RowId,
+) -> Result<RowId, AllocError>
+    requires { length rows.old.items + openings.count < 2 ^ 32 }
+    ensures rows { OnOk result (rows.new.items ≡ rows.old.items ++ spec.instance_rows openings content (length rows.old.items)) }
+    ensures outermost { IfOk result (λ outermost. outermost ≡ spec.outermost openings.count content (length rows.old.items)) }
+{
+    let mut body = content;
+    for behind in (0..openings.count).rev() {
+        let statement = statement_behind(openings.first, behind)?;
+        body = push_last(rows, Row::Instance { statement, body })?;
+    }
+    Ok(body)
+}
+
+// Adds the rows around the row of a content inside of which instances are open.
+fn push_with_instances(
+    alloc: Global,
+    rows: &mut Vec<Row>,
+    framing: Framing,
+    separators: Option<u32>,
+    content: RowId,
+) -> Result<(), AllocError>
+    requires { length rows.old.items + spec.instances_size framing separators < 2 ^ 32 }
+    ensures { OnOk result (rows.new.items ≡ rows.old.items ++ spec.with_instances framing separators content (length rows.old.items)) }
+{
+    let body = push_framed(alloc, rows, untested(framing), separators, content)?;
+    let outermost = push_instances(rows, framing.openings, body)?;
+    push_framed(alloc, rows, tests_alone(framing), None, outermost)?;
+    Ok(())
+}
+
+/// Adds the rows around the row of the content of a sequence or choice with separators of a list, or with none: what frames it, the instances
+/// that are open in it, and the tests around these.
+pub(crate) fn push_opened(
+    alloc: Global,
+    rows: &mut Vec<Row>,
+    framing: Framing,
+    separators: Option<u32>,
+    content: RowId,
+) -> Result<(), AllocError>
+    requires { length rows.old.items + spec.opened_size framing separators < 2 ^ 32 }
+    ensures { OnOk result (rows.new.items ≡ rows.old.items ++ spec.opened framing separators content (length rows.old.items)) }
+{
+    if !has_openings(framing) {
+        push_framed(alloc, rows, framing, separators, content)?;
+        return Ok(());
+    }
+    push_with_instances(alloc, rows, framing, separators, content)
 }
 
 /// How many rows the row is behind which statements are done.

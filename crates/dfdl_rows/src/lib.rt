@@ -14,6 +14,7 @@ mod depths;
 mod fault;
 mod framing;
 mod idle;
+mod last;
 mod looking;
 mod refusal;
 mod refusals;
@@ -25,7 +26,9 @@ mod slots;
 mod times;
 mod walk;
 
-pub use component::{Component, ContentBox, Counted, LeafLength, Separated};
+pub use component::{
+    BranchKey, BranchKeys, Component, ContentBox, Counted, Dispatch, LeafLength, Separated,
+};
 pub use components::{Components, are_of_one, have_delimiters, have_primitives, have_statements};
 pub use fault::RowsFault;
 pub use refusal::Refusal;

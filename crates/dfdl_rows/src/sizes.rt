@@ -3,9 +3,8 @@ ghost use Rattle.std.specs.Prelude.{◌≡◌, ◌<◌, ◌≤◌, ◌+◌, ℕ,
 ghost use Rattle.dfdl_rows.specs.Sizes as sizes;
 ghost use Rattle.dfdl_rows.specs.Saturated.{saturated};
 
-use crate::boxes::box_size;
 use crate::component::Separated;
-use crate::framing::{conclusion_size, framing_size};
+use crate::framing::{conclusion_size, framing_size, opened_size};
 use crate::scopes::{list_of, scanned_list, scope_size, separator_list};
 use crate::slot_sizes::slots_size;
 use crate::times::Times;
@@ -19,7 +18,7 @@ fn group_size(framing: Framing, separated: Option<Separated>, slots: &[Times]) -
 {
     let separators = separator_list(separated);
     let scopes = scope_size(separators) + scope_size(list_of(framing.terminator));
-    let around = 1 + scopes + framing_size(framing, separators) + conclusion_size(framing.behind);
+    let around = 1 + scopes + opened_size(framing, separators) + conclusion_size(framing.behind);
     slots_size(separated, slots).saturating_add(around)
 }
 
@@ -35,13 +34,9 @@ fn own_size(component: &Component, slots: &[Times]) -> u64
             ..
         } => group_size(*framing, *separated, slots),
         Component::Choice { framing, .. } => group_size(*framing, None, slots),
-        Component::ComplexElement {
-            framing,
-            content_box,
-            ..
-        } => {
+        Component::ComplexElement { framing, .. } => {
             let scope = scope_size(list_of(framing.terminator));
-            1 + scope + box_size(*content_box) + framing_size(*framing, None)
+            2 + scope + framing_size(*framing, None)
         }
         Component::SimpleElement {
             framing,

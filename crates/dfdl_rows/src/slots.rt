@@ -1,14 +1,15 @@
 // The slots of a group, the separators at them, and the rows that repeat elements there, and those that try them.
-ghost use Rattle.std.specs.Prelude.{◌≡◌, ◌≤◌, ◌<◌, ◌+◌, ◌-◌, ◌^◌, ◌++◌, ◌∷◌, ◌||◌, [], Bool, false, get_or, length, vec_len, IfOk, OnOk, if◌then◌else◌, nat_lt};
+ghost use Rattle.std.specs.Prelude.{◌≡◌, ◌≤◌, ◌<◌, ◌+◌, ◌-◌, ◌^◌, ◌++◌, ◌∷◌, ◌||◌, [], Bool, false, get_or, length, map, vec_len, IfOk, OnOk, if◌then◌else◌, nat_lt};
 ghost use Rattle.dfdl_rows.specs.Saturated.{saturated};
 ghost use Rattle.dfdl_rows.specs.Slots as spec;
 
 use crate::apart::{apart, apart_row, part_at};
-use crate::component::Separated;
+use crate::component::{BranchKey, Dispatch, Separated};
+use crate::last::push_last;
 use crate::slot_sizes::{needed, tried_size};
 use crate::times::Times;
 use dfdl_separators::SeparatorPosition;
-use dfdl_terms::{Row, RowId, RowList};
+use dfdl_terms::{Key, KeyList, Row, RowId, RowList};
 use std::alloc::{AllocError, Global};
 
 /// What rows are in the group that they stand in.
@@ -375,29 +376,57 @@ fn lay(
     Ok(Laid { rows, children })
 }
 
-// The row of a group of rows. Initiators tell what stands in it, or don't.
-fn row_of(kind: Grouping, initiated: bool, rows: Vec<RowId>) -> Row
-    ensures { result ≡ spec.row_of kind initiated rows.items }
+// The keys of a choice with the rows that stand for their branches, of these rows of the branches.
+fn keys_of(alloc: Global, keys: &[BranchKey], branches: &[RowId]) -> Result<KeyList, AllocError>
+    ensures { IfOk result (λ made. made ≡ map (spec.key_of branches.now) keys.now) }
 {
-    let list = RowList::new(rows);
-    match kind {
-        Grouping::Sequence => Row::Group { children: list },
-        Grouping::Choice => Row::Choice {
-            branches: list,
+    let mut made = Vec::new(alloc);
+    for key in keys {
+        let text = key.text.copy(alloc)?;
+        let body = part_at(branches, key.branch as usize);
+        made.push(Key { text, body })?;
+    }
+    Ok(KeyList::from_vec(made))
+}
+
+// The row of a choice of rows. Initiators tell what stands in it, or don't, where no key does.
+fn choice_row(
+    alloc: Global,
+    dispatch: &Option<Dispatch>,
+    initiated: bool,
+    rows: Vec<RowId>,
+) -> Result<Row, AllocError>
+    ensures { IfOk result (λ row. row ≡ spec.row_of (spec.kind_by dispatch.now) initiated rows.items) }
+{
+    match dispatch {
+        Some(dispatch) => {
+            let keys = keys_of(alloc, dispatch.keys.as_slice(), rows.as_slice())?;
+            let question = dispatch.question;
+            Ok(Row::Dispatch { question, keys })
+        }
+        None => Ok(Row::Choice {
+            branches: RowList::new(rows),
             initiated,
-        },
+        }),
     }
 }
 
-// Adds the row of a group.
-fn push_last(rows: &mut Vec<Row>, row: Row) -> Result<RowId, AllocError>
-    requires { length rows.old.items < 2 ^ 32 }
-    ensures rows { OnOk result (rows.new.items ≡ rows.old.items ++ row ∷ []) }
-    ensures number { IfOk result (λ number. number ≡ length rows.old.items) }
+// The row of a group of rows. Initiators tell what stands in it, or don't.
+fn row_of(
+    alloc: Global,
+    kind: Grouping,
+    dispatch: &Option<Dispatch>,
+    initiated: bool,
+    rows: Vec<RowId>,
+) -> Result<Row, AllocError>
+    ensures { IfOk result (λ row. row ≡ spec.row_of (spec.kind_of kind dispatch.now) initiated rows.items) }
 {
-    let number = RowId::new(rows.len() as u32);
-    rows.push(row)?;
-    Ok(number)
+    match kind {
+        Grouping::Sequence => Ok(Row::Group {
+            children: RowList::new(rows),
+        }),
+        Grouping::Choice => choice_row(alloc, dispatch, initiated, rows),
+    }
 }
 
 // Adds the rows of a group that isn't one row of slots.
@@ -405,12 +434,13 @@ fn push_laid(
     alloc: Global,
     rows: &mut Vec<Row>,
     group: Group,
+    dispatch: &Option<Dispatch>,
     slots: &[Times],
     parts: &[RowId],
 ) -> Result<RowId, AllocError>
     requires { length rows.old.items + spec.laid_size group.separated slots.now + 1 < 2 ^ 32 }
     ensures rows { OnOk result (rows.new.items ≡ rows.old.items
-        ++ spec.grouped_by None group.kind group.initiated group.separated slots.now parts.now (length rows.old.items)) }
+        ++ spec.grouped_by None (spec.kind_of group.kind dispatch.now) group.initiated group.separated slots.now parts.now (length rows.old.items)) }
     ensures number { IfOk result (λ number. number ≡ length rows.old.items + spec.laid_size group.separated slots.now) }
 {
     let first = rows.len() as u32;
@@ -418,20 +448,24 @@ fn push_laid(
     let laid = lay(alloc, group.initiated, way, slots, parts, first)?;
     let mut own = laid.rows;
     rows.append(&mut own)?;
-    push_last(rows, row_of(group.kind, group.initiated, laid.children))
+    let initiated = group.initiated;
+    let row = row_of(alloc, group.kind, dispatch, initiated, laid.children)?;
+    push_last(rows, row)
 }
 
-/// Adds the rows of the group of a sequence or choice, where these are the last rows of its parts, which occur so often; gives its own row.
+/// Adds the rows of the group of a sequence or choice, whose branch a key tells or none does, where these are the last rows of its parts, which occur
+/// so often; gives its own row.
 pub(crate) fn push_group(
     alloc: Global,
     rows: &mut Vec<Row>,
     group: Group,
+    dispatch: &Option<Dispatch>,
     slots: &[Times],
     parts: &[RowId],
 ) -> Result<RowId, AllocError>
     requires { length rows.old.items + spec.slots_size group.separated slots.now + 1 < 2 ^ 32 }
     ensures rows { OnOk result (rows.new.items ≡ rows.old.items
-        ++ spec.grouped group.kind group.initiated group.separated slots.now parts.now (length rows.old.items)) }
+        ++ spec.grouped (spec.kind_of group.kind dispatch.now) group.initiated group.separated slots.now parts.now (length rows.old.items)) }
     ensures number { IfOk result (λ number. number ≡ length rows.old.items + spec.slots_size group.separated slots.now) }
 {
     match apart(group.separated, slots) {
@@ -439,6 +473,6 @@ pub(crate) fn push_group(
             let row = apart_row(alloc, group.initiated, slots, parts, own)?;
             push_last(rows, row)
         }
-        None => push_laid(alloc, rows, group, slots, parts),
+        None => push_laid(alloc, rows, group, dispatch, slots, parts),
     }
 }

@@ -77,9 +77,16 @@ pub(crate) fn have_tried(slots: &[Times]) -> bool
     slots.iter().any(|times| times.further > 0)
 }
 
-/// Whether there is an occurrence, as far as no question tells that: the part has a slot.
-pub(crate) fn has_slot(times: Times) -> bool
-    ensures { result ≡ spec.has_slot times }
+/// Whether a question tells how often some part occurs.
+pub(crate) fn have_told(slots: &[Times]) -> bool
+    ensures { result ≡ spec.have_told slots.now }
 {
-    times.least > 0 || times.further > 0
+    slots.iter().any(|times| times.question.is_some())
+}
+
+/// Whether a part has no slot: none of its occurrences is required or tried, and no question tells how many there are.
+pub(crate) fn is_slotless(times: Times) -> bool
+    ensures { result ≡ spec.is_slotless times }
+{
+    !(times.least > 0 || times.further > 0 || times.question.is_some())
 }

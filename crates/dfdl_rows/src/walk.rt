@@ -2,23 +2,26 @@
 ghost use Rattle.std.specs.Prelude.{◌≡◌, ◌<◌, ◌≤◌, ◌+◌, ◌^◌, ◌++◌, ◌∷◌, [], length, map, All, get_or, IfOk, OnOk};
 ghost use Rattle.dfdl_order.specs.Parts.{uses_of};
 ghost use Rattle.dfdl_rows.specs.Components.{HasOrder};
-ghost use Rattle.dfdl_rows.specs.Framing.{framing_size};
+ghost use Rattle.dfdl_rows.specs.Framing.{opened_size};
 ghost use Rattle.dfdl_rows.specs.RowLists as lists;
 ghost use Rattle.dfdl_rows.specs.Scopes as scopes;
 ghost use Rattle.dfdl_rows.specs.Scopes.{scope_size};
 ghost use Rattle.dfdl_rows.specs.Sizes.{group_size, own_size, size_of};
+ghost use Rattle.dfdl_rows.specs.Slots.{kind_of};
 ghost use Rattle.dfdl_rows.specs.Walk.{made, closed, all_done, component_of, steps_left};
 ghost use Rattle.dfdl_terms.specs.declared.row.Row.TheVariants.{Elem};
 ghost use Rattle.dfdl_rows.specs.declared.walk.Task.TheVariants.{Enter, Close};
 
-use crate::boxes::push_boxed;
-use crate::framing::{push_conclusion, push_framed};
+use crate::boxes::box_row;
+use crate::component::Dispatch;
+use crate::framing::{push_conclusion, push_framed, push_opened};
+use crate::last::push_last;
 use crate::scopes::{list_of, push_scoped, scanned_list, separator_list};
 use crate::slots::{Group, Grouping, push_group};
 use crate::times::Times;
 use crate::{Component, Components, LeafLength};
 use dfdl_forms::Simple;
-use dfdl_terms::{Framing, Representations, Row, RowId, Statements};
+use dfdl_terms::{Framing, Representations, Row, RowId, Statements, WhereTried};
 use dfdl_value::TextValue;
 use std::alloc::{AllocError, Global};
 use std::collections::VecDeque;
@@ -29,6 +32,11 @@ const NO_TRIALS: Representations = Representations {
     empty: None,
     refuses_empty: false,
     are_several: false,
+    where_tried: WhereTried {
+        empty: None,
+        refuses_empty: false,
+        are_several: false,
+    },
 };
 
 // What is to be done next: all rows of a component, or the rows of its own behind those of its parts.
@@ -187,15 +195,19 @@ fn push_own(
                 separated: *separated,
                 initiated: *initiated,
             };
-            push_grouped(alloc, rows, group, *framing, slots, parts)
+            push_grouped(alloc, rows, group, &None, *framing, slots, parts)
         }
-        Component::Choice { framing, initiated } => {
+        Component::Choice {
+            framing,
+            initiated,
+            dispatch,
+        } => {
             let group = Group {
                 kind: Grouping::Choice,
                 separated: None,
                 initiated: *initiated,
             };
-            push_grouped(alloc, rows, group, *framing, slots, parts)
+            push_grouped(alloc, rows, group, dispatch, *framing, slots, parts)
         }
         Component::ComplexElement {
             name,
@@ -204,7 +216,7 @@ fn push_own(
             ..
         } => {
             let scoped = push_scoped(rows, list_of(framing.terminator), first_of(parts))?;
-            let boxed = push_boxed(rows, *content_box, scoped)?;
+            let boxed = push_last(rows, box_row(*content_box, scoped))?;
             let body = push_framed(alloc, rows, *framing, None, boxed)?;
             let behind = framing.behind;
             push_element(alloc, rows, name, None, NO_TRIALS, behind, body)
@@ -254,16 +266,17 @@ fn push_grouped(
     alloc: Global,
     rows: &mut Vec<Row>,
     group: Group,
+    dispatch: &Option<Dispatch>,
     framing: Framing,
     slots: &[Times],
     parts: &[RowId],
 ) -> Result<(), AllocError>
     requires { length rows.old.items + group_size framing group.separated slots.now < 2 ^ 32 }
     ensures { OnOk result (rows.new.items
-        ≡ rows.old.items ++ lists.group_rows group.kind framing group.separated group.initiated slots.now parts.now
+        ≡ rows.old.items ++ lists.group_rows (kind_of group.kind dispatch.now) framing group.separated group.initiated slots.now parts.now
         (length rows.old.items)) }
 {
-    push_unconcluded(alloc, rows, group, framing, slots, parts)?;
+    push_unconcluded(alloc, rows, group, dispatch, framing, slots, parts)?;
     push_conclusion(rows, framing.behind)
 }
 
@@ -272,21 +285,23 @@ fn push_unconcluded(
     alloc: Global,
     rows: &mut Vec<Row>,
     group: Group,
+    dispatch: &Option<Dispatch>,
     framing: Framing,
     slots: &[Times],
     parts: &[RowId],
 ) -> Result<(), AllocError>
     requires { length rows.old.items + group_size framing group.separated slots.now < 2 ^ 32 }
     ensures { OnOk result (rows.new.items
-        ≡ rows.old.items ++ lists.around_rows group.kind framing group.separated group.initiated slots.now parts.now
+        ≡ rows.old.items ++ lists.around_rows (kind_of group.kind dispatch.now) framing group.separated group.initiated slots.now parts.now
         (length rows.old.items)) }
 {
-    let content = push_group(alloc, rows, group, slots, parts)?;
+    let content = push_group(alloc, rows, group, dispatch, slots, parts)?;
     let separators = separator_list(group.separated);
     push_around(alloc, rows, framing, separators, content)
 }
 
-// Adds the rows around the row of the group of a sequence or choice: the scopes of its separators and of its terminator, and what frames it.
+// Adds the rows around the row of the group of a sequence or choice: the scopes of its separators and of its terminator, what frames it, and the instances
+// that are open in it.
 fn push_around(
     alloc: Global,
     rows: &mut Vec<Row>,
@@ -295,14 +310,13 @@ fn push_around(
     content: RowId,
 ) -> Result<(), AllocError>
     requires { length rows.old.items + scope_size separators + scope_size (scopes.list_of framing.terminator)
-        + framing_size framing separators < 2 ^ 32 }
+        + opened_size framing separators < 2 ^ 32 }
     ensures { OnOk result (rows.new.items
         ≡ rows.old.items ++ lists.sequence_rows framing separators content (length rows.old.items)) }
 {
     let inner = push_scoped(rows, separators, content)?;
     let outer = push_scoped(rows, list_of(framing.terminator), inner)?;
-    push_framed(alloc, rows, framing, separators, outer)?;
-    Ok(())
+    push_opened(alloc, rows, framing, separators, outer)
 }
 
 // The row of the content of a simple element, with what gives its length.

@@ -1,6 +1,8 @@
 -- The slots of a sequence stop by a limit on data alone.
 use Rattle.std.proofs.Common.{ℕ, zero, suc, Bool, true, false, cond, nat_lt, List, [], ◌∷◌, Option, Some, None}
 use Rattle.dfdl_report.specs.declared.cause.ParseCause.{ParseCause}
+use Rattle.dfdl_report.specs.declared.cause.ParseCause.TheVariants.{NegativeCount}
+use Rattle.dfdl_paths.specs.declared.place.Start.TheVariants as start
 use Rattle.dfdl_looks.specs.Asks.{Ask, Reached, Told, TooFar, Missing, ask}
 use Rattle.dfdl_looks.specs.Looks.{seen_in}
 use Rattle.dfdl_looks.specs.Tallies.{nothing}
@@ -17,10 +19,14 @@ use Rattle.dfdl_terms.specs.declared.slots.Slot.{Slot}
 use Rattle.dfdl_grammar.specs.declared.end.End.{End}
 use Rattle.dfdl_grammar.specs.declared.end.End.TheVariants.{Done, Failed, Stopped}
 use Rattle.dfdl_grammar.specs.States.{Input, State, anchor}
-use Rattle.dfdl_grammar.specs.Outcomes.{Outcome, ended}
+use Rattle.dfdl_grammar.specs.Outcomes.{Outcome, ended, then_do}
 use Rattle.dfdl_grammar.specs.Delimiters.{separator}
 use Rattle.dfdl_grammar.specs.Marks.{is_settled}
-use Rattle.dfdl_grammar.specs.Slots.{Course, Sequence, Tail, Turn, after_closing, after_content, after_separator, ask_empty, ask_separator, begin, closed_slot, content, decide, decided_by, emptied, ended_by, in_slots, is_blank, is_tried, occur, opened_slot, opens_before, peek, separated, settle, settled_by, slot, taken, taken_back, times, told, untaken, without_separator}
+use Rattle.dfdl_grammar.specs.Occurrences.{occurring}
+use Rattle.dfdl_grammar.specs.Questions.{question_at}
+use Rattle.dfdl_grammar.specs.Slots.{Course, Sequence, Tail, Turn, after_closing, after_content, after_separator, ask_empty, ask_separator, begin, closed_slot, content, decide, decided_by, emptied, ended_by, in_row, in_slots, is_blank, is_tried, occur, opened_slot, opens_before, peek, separated, settle, settled_by, slot, taken, taken_back, then_slots, times, told, told_row, untaken, without_separator}
+use Rattle.dfdl_run.proofs.AskedStops.{count-stops}
+use Rattle.dfdl_run.proofs.StatedStops.{follow-stops, occurring-stops}
 use Rattle.dfdl_run.proofs.Stopping.{AlwaysStops, StopsByData}
 
 told-stops : (input : Input) (next : Bool → State → Outcome) → ((answer : Bool) → AlwaysStops (next answer)) → (reached : Reached Bool)
@@ -39,7 +45,7 @@ abbrev TailStops : Tail → Type 0
 TailStops tail = (course : Course) → AlwaysStops (tail course)
 
 module _ (sequence : Sequence) (each : (id : ℕ) → AlwaysStops (sequence.child id))
-    (sought : AlwaysStops (separator sequence.input sequence.delimiters)) where
+    (sought : AlwaysStops (separator sequence.input sequence.table.delimiters)) where
   module _ (turn : Turn) (more : TailStops turn.more) (none : TailStops turn.none) where
     settle-stops : (here : Here) (course : Course) (content : ℕ) (after : Progress) (move : SlotMove) (o : Outcome) → StopsByData o.end
         → StopsByData (settle turn here course content after move o).end
@@ -72,7 +78,7 @@ module _ (sequence : Sequence) (each : (id : ℕ) → AlwaysStops (sequence.chil
     decide-stops here course content blank after (Fail fault) o own = own
     decide-stops here course content blank after TakeSeparator o own =
         let s : State = cond blank (emptied content o.state) o.state in
-        let closing : Outcome = separator sequence.input sequence.delimiters s in
+        let closing : Outcome = separator sequence.input sequence.table.delimiters s in
         closing-stops (untaken course after) content closing.end closing (sought s)
     decide-stops here course content blank after LookForSeparator o own =
         let s : State = cond blank (emptied content o.state) o.state in
@@ -97,7 +103,8 @@ module _ (sequence : Sequence) (each : (id : ℕ) → AlwaysStops (sequence.chil
 
     occur-stops : (course : Course) (empty : Bool) → AlwaysStops (occur sequence turn course empty)
     occur-stops course empty s =
-        let o : Outcome = sequence.child turn.body s in occurred-stops course s.at empty o.end o (each turn.body s)
+        let o : Outcome = occurring (is_tried turn.rule) (sequence.child turn.body) s in
+        occurred-stops course s.at empty o.end o (occurring-stops (is_tried turn.rule) (sequence.child turn.body) (each turn.body) s)
 
     content-by : (course : Course) (s : State) (tried : Bool)
         → (let out : Outcome = cond tried (peek sequence.input (ask_empty sequence s) (λ empty t. occur sequence turn course empty
@@ -134,7 +141,7 @@ module _ (sequence : Sequence) (each : (id : ℕ) → AlwaysStops (sequence.chil
     begin-stops : (here : Here) (course : Course) (after : Progress) (move : SlotMove) → AlwaysStops (begin sequence turn here course after move)
     begin-stops here course after TakeSeparator s =
         let t : State = cond (opens_before here) (opened_slot sequence here s) s in
-        let o : Outcome = separator sequence.input sequence.delimiters t in
+        let o : Outcome = separator sequence.input sequence.table.delimiters t in
         sought-stops (untaken course after) o.end o (sought t)
     begin-stops here course after Parse s = content-stops (untaken course after) s
     begin-stops here course after EndArray s = none (untaken course after) s
@@ -168,11 +175,30 @@ module _ (sequence : Sequence) (each : (id : ℕ) → AlwaysStops (sequence.chil
   ended-stops LookForSeparator course s = tt
   ended-stops Parse course s = tt
 
+  -- the slots of one row, of which a question may tell how many are required
+  row-stops : (own : Slot) (least : ℕ) (next : Tail) → TailStops next → TailStops (in_row sequence own least next)
+  row-stops own least next next_stops course s =
+      times-stop false false own.body least (times sequence true own.is_parsed own.body own.further next)
+      (times-stop true own.is_parsed own.body own.further next next_stops) course s
+
+  told_row-stops : (own : Slot) (question : Option ℕ) (next : Tail) → TailStops next → TailStops (told_row sequence own question next)
+  told_row-stops own None next next_stops course s = row-stops own own.least next next_stops course s
+  told_row-stops own (Some question) next next_stops course s =
+      count-stops NegativeCount (λ count after. in_row sequence own count next course after)
+      (λ count after. row-stops own count next next_stops course after) sequence.table (start.Inside s.inside) (question_at sequence.table question) s
+
+  -- a row without a slot, and what follows it
+  then-stops : (own : Slot) (next : Tail) → TailStops next → TailStops (then_slots sequence own next)
+  then-stops own next next_stops course s = by own.is_slotless
+    where
+      by : (slotless : Bool) → StopsByData
+          (cond slotless (then_do (sequence.child own.body s) (next course)) (told_row sequence own own.question next course s)).end
+      by true = follow-stops (sequence.child own.body s).end (sequence.child own.body s) (next course) (each own.body s) (next_stops course)
+      by false = told_row-stops own own.question next next_stops course s
+
   slots-stop : (slots : List Slot) → TailStops (in_slots sequence slots)
   slots-stop [] course s = ended-stops (ending course.progress) course s
-  slots-stop (own ∷ slots) course s =
-      times-stop false false own.body own.least (times sequence true own.is_parsed own.body own.further (in_slots sequence slots))
-      (times-stop true own.is_parsed own.body own.further (in_slots sequence slots) (slots-stop slots)) course s
+  slots-stop (own ∷ slots) course s = then-stops own (in_slots sequence slots) (slots-stop slots) course s
 
   pub separated-stops : (policy : SeparatorSuppressionPolicy) (slots : List Slot) → AlwaysStops (separated sequence policy slots)
   separated-stops policy slots s = slots-stop slots (record { progress = begun policy sequence.position; last = s.at }) s

@@ -8,11 +8,10 @@ use Rattle.dfdl_vars.specs.declared.instances.VarFault.{VarFault}
 use Rattle.dfdl_paths.specs.declared.place.Start.{Start}
 use Rattle.dfdl_region.specs.declared.node.Content.{Content}
 use Rattle.dfdl_region.specs.declared.node.Content.TheVariants as content
-use Rattle.dfdl_region.specs.Nodes.{with_content}
 use Rattle.dfdl_surroundings.specs.Taking.{taken, truth_taken}
 use Rattle.dfdl_terms.specs.Rows.{Table}
 use Rattle.dfdl_terms.specs.declared.statement.Statement.{Statement}
-use Rattle.dfdl_terms.specs.declared.statement.Statement.TheVariants.{Pattern, Expression, Setting, Calculation, Question}
+use Rattle.dfdl_terms.specs.declared.statement.Statement.TheVariants.{Pattern, Expression, Setting, Calculation, Question, Opening}
 use Rattle.dfdl_terms.specs.declared.statement.Statements.{Statements}
 use Rattle.dfdl_grammar.specs.declared.end.End.{End}
 use Rattle.dfdl_grammar.specs.declared.end.End.TheVariants.{Done, Failed, Stopped}
@@ -20,27 +19,27 @@ use Rattle.dfdl_grammar.specs.declared.end.Halt.TheVariants.{Limit}
 use Rattle.dfdl_grammar.specs.declared.limits.Limits.{Limits}
 use Rattle.dfdl_grammar.specs.States.{Input, State}
 use Rattle.dfdl_grammar.specs.Outcomes.{Outcome, ended, follow}
-use Rattle.dfdl_grammar.specs.Leaves.{Find, Fails, Finds, FindsOctets, FindsText, default_find, land}
+use Rattle.dfdl_grammar.specs.Leaves.{Find, Fails, Finds, FindsOctets, FindsText, default_find, land, taken_as}
+use Rattle.dfdl_grammar.specs.declared.span.Span.{Span}
+use Rattle.dfdl_grammar.specs.Occurrences.{as_occurrence, occurring, untried}
 use Rattle.dfdl_grammar.specs.Statements.{calculated, concluded, concluded_at, evaluated, is_written, judged, set_by, set_to, start_of, stated, stated_from, statement, statement_of, with_reads}
 use Rattle.dfdl_run.proofs.SoughtStops.{test-stops, tested-stops}
 use Rattle.dfdl_run.proofs.Stopping.{StopsByData}
 
-hold-stops : (most : ℕ) (made : ℕ → ℕ → Content) (bytes : List ℕ) (end : ℕ) (s : State) (room : Bool)
-    → StopsByData (let whole : Outcome = (if room then ended Done (record s {
-      at = end;
-      text = s.text ++ bytes;
-      nodes = with_content s.nodes s.inside (made (length s.text) (length bytes));
-    }) else ended (Stopped (Limit Text) most) s) in whole.end)
-hold-stops most made bytes end s true = tt
-hold-stops most made bytes end s false = tt
+hold-stops : (most : ℕ) (made : ℕ → ℕ → Content) (bytes : List ℕ) (span : Span) (s : State) (room : Bool)
+    → StopsByData (let whole : Outcome =
+    (if room then ended Done (record (taken_as (made (length s.text) (length bytes)) span s) { text = s.text ++ bytes })
+    else ended (Stopped (Limit Text) most) s) in whole.end)
+hold-stops most made bytes span s true = tt
+hold-stops most made bytes span s false = tt
 
 pub land-stops : (limits : Limits) (first : ℕ) (reached : Reached Find) (s : State) → StopsByData (land limits first reached s).end
 land-stops limits first (Told (Fails cause)) s = tt
-land-stops limits first (Told (Finds content end)) s = tt
-land-stops limits first (Told (FindsOctets bytes end)) s =
-    hold-stops limits.text content.Octets bytes end s (nat_le (length s.text + length bytes) limits.text)
-land-stops limits first (Told (FindsText bytes end)) s =
-    hold-stops limits.text content.Text bytes end s (nat_le (length s.text + length bytes) limits.text)
+land-stops limits first (Told (Finds content span)) s = tt
+land-stops limits first (Told (FindsOctets bytes span)) s =
+    hold-stops limits.text content.Octets bytes span s (nat_le (length s.text + length bytes) limits.text)
+land-stops limits first (Told (FindsText bytes span)) s =
+    hold-stops limits.text content.Text bytes span s (nat_le (length s.text + length bytes) limits.text)
 land-stops limits first TooFar s = tt
 land-stops limits first Missing s = tt
 
@@ -49,6 +48,17 @@ pub follow-stops : (end : End) (o : Outcome) (next : State → Outcome) → Stop
 follow-stops Done o next own after = after o.state
 follow-stops (Failed cause bit) o next own after = own
 follow-stops (Stopped cause quantity) o next own after = own
+
+untried-stops : (end : End) (o : Outcome) → StopsByData o.end → StopsByData (untried end o).end
+untried-stops Done o own = own
+untried-stops (Failed cause bit) o own = own
+untried-stops (Stopped cause quantity) o own = own
+
+-- an occurrence, which is tried or not
+pub occurring-stops : (tried : Bool) (body : State → Outcome) → ((s : State) → StopsByData (body s).end) → (s : State)
+    → StopsByData (occurring tried body s).end
+occurring-stops tried body each s =
+    let o : Outcome = body (as_occurrence tried s) in untried-stops o.end o (each (as_occurrence tried s))
 
 judged-stops : (discriminates : Bool) (number : ℕ) (r : Result Bool ℕ) (s : State) → StopsByData (judged discriminates number r s).end
 judged-stops discriminates number (Ok holds) s = tested-stops discriminates number holds s
@@ -88,6 +98,7 @@ stated-stops limits table start number (Some (Setting setting)) s =
 stated-stops limits table start number (Some (Calculation calculation)) s =
     calculated-stops limits (taken calculation.kind (evaluated table start calculation.expression s)) (with_reads table start calculation.expression s)
 stated-stops limits table start number (Some (Question question)) s = tt
+stated-stops limits table start number (Some (Opening opening)) s = tt
 
 of-stops : (input : Input) (table : Table) (number : ℕ) (found : Option Statement) (s : State) → StopsByData (statement_of input table number found s).end
 of-stops input table number None s = tt
@@ -100,6 +111,8 @@ of-stops input table number (Some (Calculation calculation)) s =
     stated-stops input.limits table (start_of (Some (Calculation calculation)) s) number (Some (Calculation calculation)) s
 of-stops input table number (Some (Question question)) s =
     stated-stops input.limits table (start_of (Some (Question question)) s) number (Some (Question question)) s
+of-stops input table number (Some (Opening opening)) s =
+    stated-stops input.limits table (start_of (Some (Opening opening)) s) number (Some (Opening opening)) s
 
 pub statement-stops : (input : Input) (table : Table) (number : ℕ) (s : State) → StopsByData (statement input table number s).end
 statement-stops input table number s = of-stops input table number (slice_get table.statements number) s

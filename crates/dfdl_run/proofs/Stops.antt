@@ -1,5 +1,5 @@
 -- A document stops by a limit on data, or a variable that can't be set, alone.
-use Rattle.std.proofs.Common.{ℕ, zero, suc, ◌+◌, ◌-◌, ◌*◌, ◌/◌, nat_eq, nat_le, nat_lt, true, false, Bool, if◌then◌else◌, List, [], ◌∷◌, length, Option, None, Some, slice_get, replicate}
+use Rattle.std.proofs.Common.{ℕ, zero, suc, ◌+◌, ◌-◌, ◌*◌, ◌/◌, nat_eq, nat_le, nat_lt, true, false, Bool, if◌then◌else◌, List, [], ◌∷◌, length, Option, None, Some, Result, Ok, Err, slice_get, replicate}
 use Rattle.dfdl_report.specs.declared.cause.LimitCause.TheVariants.{Nodes}
 use Rattle.dfdl_report.specs.declared.cause.ParseCause.TheVariants.{LengthOutOfRange, NegativeCount}
 use Rattle.dfdl_looks.specs.Asks.{Reached, Told, TooFar, Missing, ask}
@@ -12,7 +12,7 @@ use Rattle.dfdl_terms.specs.declared.row.Primitive.{Primitive}
 use Rattle.dfdl_terms.specs.declared.representations.Representations.{Representations}
 use Rattle.dfdl_terms.specs.declared.row.Row.{Row}
 use Rattle.dfdl_terms.specs.declared.text.TextSize.{TextSize}
-use Rattle.dfdl_terms.specs.declared.row.Row.TheVariants.{Leaf, Elem, Group, Skip, Align, Initiator, Terminator, Separator, Scope, Boxed, PrefixedLeaf, PrefixedBox, MeasuredLeaf, MeasuredBox, Repeat, Counted, Optional, Choice as ChoiceRow, Dispatch, Statement, Concluded, Hidden, Separated}
+use Rattle.dfdl_terms.specs.declared.row.Row.TheVariants.{Leaf, Elem, Group, Skip, Align, Initiator, Terminator, Separator, Scope, Boxed, PrefixedLeaf, PrefixedBox, MeasuredLeaf, MeasuredBox, Repeat, Counted, Optional, Choice as ChoiceRow, Dispatch, Statement, Concluded, Hidden, Spanned, Instance, Separated}
 use Rattle.dfdl_grammar.specs.declared.end.End.{End}
 use Rattle.dfdl_grammar.specs.declared.end.End.TheVariants.{Done, Failed, Stopped}
 use Rattle.dfdl_grammar.specs.declared.end.Halt.TheVariants.{Limit}
@@ -25,23 +25,27 @@ use Rattle.dfdl_grammar.specs.Outcomes.{Outcome, ended, spend, then_do}
 use Rattle.dfdl_grammar.specs.Leaves.{Find, Fails, Finds, FindsOctets, FindsText, content_begins, has_room, land, leaf, nil_values, program, program_for, read_by}
 use Rattle.dfdl_grammar.specs.Framing.{aligned, fill_to, has_byte, pass_to, passed}
 use Rattle.dfdl_grammar.specs.Delimiters.{lists_of, markup, opens, scoped, unscoped}
-use Rattle.dfdl_grammar.specs.Boxes.{boxed_at, bytes_up_to, pass_bytes, past_byte, rest as rest_of, unboxed}
+use Rattle.dfdl_grammar.specs.Boxes.{boxed_at, bytes_up_to, filled_from, pass_bytes, past_byte, rest_from, unboxed}
+use Rattle.dfdl_grammar.specs.Spans.{span_ends}
 use Rattle.dfdl_paths.specs.declared.place.Start.TheVariants.{At, Inside}
 use Rattle.dfdl_grammar.specs.Elements.{attempted, begun, close, element, has_elements}
 use Rattle.dfdl_grammar.specs.Marks.{back, closed, is_settled, marked, pointed, stays_at}
 use Rattle.dfdl_grammar.specs.Choices.{branches, choice, or_branch}
-use Rattle.dfdl_grammar.specs.Occurrences.{after_occurrence, dropped, occurrences}
+use Rattle.dfdl_grammar.specs.Occurrences.{after_occurrence, dropped, occurrences, occurring}
 use Rattle.dfdl_grammar.specs.Slots.{Sequence}
-use Rattle.dfdl_grammar.specs.Representations.{Attempt, after_empty, or_else, refuse, refused_among, represented, the_last, then_empty, then_nil, then_normal}
+use Rattle.dfdl_grammar.specs.Representations.{Attempt, after_empty, or_else, refuse, is_occurrence, refused_among, representations_in, represented, represented_by, the_last, then_empty, then_nil, then_normal}
 use Rattle.dfdl_grammar.specs.Prefixes.{behind_prefix, bits_of_units, land_prefix, leaf_of, prefixed, resized, size_of, sized_leaf, units_told}
+use Rattle.dfdl_grammar.specs.Instances.{closed_behind, opened_by, opened_with, opening_of, start_read, start_told, with_instance}
 use Rattle.dfdl_grammar.specs.Questions.{question_at}
+use Rattle.dfdl_terms.specs.declared.statement.Opening.{Opening}
+use Rattle.dfdl_vars.specs.Kept.{entered}
 use Rattle.dfdl_grammar.specs.Rows.{below, group, meaning, row, row_at}
 use Rattle.dfdl_grammar.specs.Documents.{document}
 use Rattle.dfdl_run.proofs.AskedStops.{count-stops, key-stops}
 use Rattle.dfdl_run.proofs.Stopping.{StopsByData}
 use Rattle.dfdl_run.proofs.SlottedStops.{separated-stops}
 use Rattle.dfdl_run.proofs.SoughtStops.{initiator-stops, separator-stops, terminator-stops}
-use Rattle.dfdl_run.proofs.StatedStops.{concluded-stops, follow-stops, land-stops, statement-stops}
+use Rattle.dfdl_run.proofs.StatedStops.{concluded-stops, follow-stops, land-stops, occurring-stops, statement-stops}
 
 room-stops : (input : Input) (delimiters : List Delimiters) (nil : Option (List Value)) (primitive : Primitive) (s : State) (room : Bool)
     → StopsByData (let whole : Outcome = (if room then
@@ -159,12 +163,15 @@ nil-stops tried (Some prim) attempt each s =
     else-stops (attempt (Nil prim) s).end (attempt (Nil prim) s) (then_empty tried.refuses_empty tried.empty attempt) (each (Nil prim) s)
     (empty-stops tried.refuses_empty tried.empty attempt each)
 
-represented-stops : (tried : Representations) (attempt : Attempt) → AllStop attempt → (s : State) → StopsByData (represented tried attempt s).end
-represented-stops tried attempt each s = elim tried.are_several as (λ (b : Bool).
+representations-stop : (tried : Representations) (attempt : Attempt) → AllStop attempt → (s : State) → StopsByData (represented_by tried attempt s).end
+representations-stop tried attempt each s = elim tried.are_several as (λ (b : Bool).
     StopsByData (let whole : Outcome = (if b then then_nil tried tried.nil attempt (marked s) else attempt Nothing s) in whole.end)) [
       | true ↦ nil-stops tried tried.nil attempt each (marked s)
       | false ↦ each Nothing s
     ]
+
+represented-stops : (tried : Representations) (attempt : Attempt) → AllStop attempt → (s : State) → StopsByData (represented tried attempt s).end
+represented-stops tried attempt each s = representations-stop (representations_in (is_occurrence s.instead) tried) attempt each s
 
 -- behind a branch that fails
 settled-stops : (o : Outcome) (next : State → Outcome) → StopsByData o.end → ((s : State) → StopsByData (next s).end) → (settled : Bool)
@@ -229,13 +236,14 @@ unboxed-stops (Stopped cause quantity) outer hidden o own = own
 
 boxed-stops : (input : Input) (bits : ℕ) (body : State → Outcome) → ((s : State) → StopsByData (body s).end) → (s : State) (room : Bool)
     → StopsByData (let whole : Outcome = (if room then
-    (let o : Outcome = then_do (body (boxed_at (s.at + bits) s)) (rest_of input) in unboxed o.end s.stop s.hidden o)
+    (let o : Outcome = then_do (body (boxed_at (s.at + bits) s)) (rest_from input s.at) in unboxed o.end s.stop s.hidden o)
     else ended (Failed LengthOutOfRange s.at) s) in whole.end)
 boxed-stops input bits body each s true =
     let inside : State = boxed_at (s.at + bits) s in
-    let o : Outcome = then_do (body inside) (rest_of input) in
+    let o : Outcome = then_do (body inside) (rest_from input s.at) in
     unboxed-stops o.end s.stop s.hidden o
-    (follow-stops (body inside).end (body inside) (rest_of input) (each inside) (λ t. rest-stops input t (nat_le t.stop t.at)))
+    (follow-stops (body inside).end (body inside) (rest_from input s.at) (each inside)
+    (λ t. rest-stops input (filled_from s.at t) (nat_le t.stop t.at)))
 boxed-stops input bits body each s false = tt
 
 behind-stops : (end : ℕ) (next : ℕ → State → Outcome) → ((units : ℕ) (s : State) → StopsByData (next units s).end)
@@ -246,9 +254,9 @@ behind-stops end next each s (Some units) = each units (record s { at = end })
 land-prefix-stops : (limits : Limits) (own first : ℕ) (next : ℕ → State → Outcome) → ((units : ℕ) (s : State) → StopsByData (next units s).end)
     → (reached : Reached Find) (s : State) → StopsByData (land_prefix limits own first next reached s).end
 land-prefix-stops limits own first next each (Told (Fails cause)) s = tt
-land-prefix-stops limits own first next each (Told (Finds content end)) s = behind-stops end next each s (units_told own content)
-land-prefix-stops limits own first next each (Told (FindsOctets bytes end)) s = tt
-land-prefix-stops limits own first next each (Told (FindsText bytes end)) s = tt
+land-prefix-stops limits own first next each (Told (Finds content span)) s = behind-stops span.end next each s (units_told own content)
+land-prefix-stops limits own first next each (Told (FindsOctets bytes span)) s = tt
+land-prefix-stops limits own first next each (Told (FindsText bytes span)) s = tt
 land-prefix-stops limits own first next each TooFar s = tt
 land-prefix-stops limits own first next each Missing s = tt
 
@@ -278,6 +286,31 @@ sized-stops : (input : Input) (delimiters : List Delimiters) (nil : Option (List
 sized-stops input delimiters nil None size s = tt
 sized-stops input delimiters nil (Some primitive) size s = resized-stops input delimiters nil (resized size primitive) s
 
+closed-behind-stops : (end : End) (o : Outcome) → StopsByData o.end → StopsByData (closed_behind end o).end
+closed-behind-stops Done o own = own
+closed-behind-stops (Failed cause bit) o own = own
+closed-behind-stops (Stopped cause quantity) o own = own
+
+there-stops : (number : ℕ) (start : Option Value) (body : State → Outcome) → ((s : State) → StopsByData (body s).end) → (s : State) (there : Bool)
+    → StopsByData (let whole : Outcome = (if there then with_instance number start body s else body s) in whole.end)
+there-stops number start body each s true =
+    let inside : State = record s { variables = entered s.variables number start } in
+    closed-behind-stops (body inside).end (body inside) (each inside)
+there-stops number start body each s false = each s
+
+opened-with-stops : (number : ℕ) (start : Result (Option Value) ℕ) (body : State → Outcome) → ((s : State) → StopsByData (body s).end) → (s : State)
+    → StopsByData (opened_with number start body s).end
+opened-with-stops number (Ok start) body each s = there-stops number start body each s (nat_lt number s.variables.globals)
+opened-with-stops number (Err cause) body each s = tt
+
+-- a component with the instance that is opened for it
+opened-stops : (table : Table) (opening : Option Opening) (body : State → Outcome) → ((s : State) → StopsByData (body s).end) → (s : State)
+    → StopsByData (opened_by table opening body s).end
+opened-stops table None body each s = each s
+opened-stops table (Some opening) body each s =
+    opened-with-stops opening.variable (start_told table (Inside s.inside) opening.kind opening.start s) body each
+    (record s { variables = start_read table (Inside s.inside) opening.start s })
+
 row-stops : (input : Input) (table : Table) (child : ℕ → State → Outcome) → ((id : ℕ) (s : State) → StopsByData (child id s).end)
     → (id : ℕ) (o : Option Row) (s : State) → StopsByData (row input table child id o s).end
 row-stops input table child each id None s = tt
@@ -291,7 +324,8 @@ row-stops input table child each id (Some (Repeat count body)) s = group-stops c
 row-stops input table child each id (Some (Counted question body)) s =
     count-stops NegativeCount (λ count t. group child (replicate count body) t) (λ count t. group-stops child each (replicate count body) t)
     table (Inside s.inside) (question_at table question) s
-row-stops input table child each id (Some (Optional most item initiated body)) s = occurrences-stop (child body) (each body) initiated most s
+row-stops input table child each id (Some (Optional most item initiated body)) s =
+    occurrences-stop (occurring true (child body)) (occurring-stops true (child body) (each body)) initiated most s
 row-stops input table child each id (Some (ChoiceRow ids initiated)) s = choice-stops child each initiated ids s
 row-stops input table child each id (Some (Dispatch question keys)) s =
     key-stops child each table (Inside s.inside) keys (question_at table question) s
@@ -299,9 +333,13 @@ row-stops input table child each id (Some (Statement number)) s = statement-stop
 row-stops input table child each id (Some (Concluded behind body)) s =
     concluded-stops input.limits table (Inside s.inside) behind (child body s) (each body s)
 row-stops input table child each id (Some (Hidden body)) s = each body s
+row-stops input table child each id (Some (Spanned body)) s =
+    follow-stops (child body s).end (child body s) (span_ends s.at) (each body s) (λ t. tt)
+row-stops input table child each id (Some (Instance statement body)) s =
+    opened-stops table (opening_of (slice_get table.statements statement)) (child body) (each body) s
 row-stops input table child each id (Some (Separated policy position initiated slots)) s =
     let sequence : Sequence =
-    record { input = input; delimiters = table.delimiters; child = child; position = position; initiated = initiated } in
+    record { input = input; table = table; child = child; position = position; initiated = initiated } in
     separated-stops sequence each (separator-stops input table.delimiters) policy slots s
 row-stops input table child each id (Some (Skip bits)) s = pass-stops input (s.at + bits) s
 row-stops input table child each id (Some (Align bits)) s = pass-stops input (aligned bits s.at) s

@@ -9,7 +9,7 @@ use Rattle.dfdl_terms.specs.Rows.{Table}
 use Rattle.dfdl_terms.specs.declared.row.Primitive.{Primitive}
 use Rattle.dfdl_terms.specs.declared.row.Primitive.TheVariants.{Integer, Packed, Truth, Octets, Text, NilOctets, Default, NilValues, Pattern}
 use Rattle.dfdl_terms.specs.declared.row.Row.{Row}
-use Rattle.dfdl_terms.specs.declared.row.Row.TheVariants.{Leaf, Elem, Group, Skip, Align, Initiator, Terminator, Separator, Scope, Boxed, PrefixedLeaf, PrefixedBox, MeasuredLeaf, MeasuredBox, Repeat, Counted, Optional, Choice, Dispatch, Statement, Concluded, Hidden, Separated}
+use Rattle.dfdl_terms.specs.declared.row.Row.TheVariants.{Leaf, Elem, Group, Skip, Align, Initiator, Terminator, Separator, Scope, Boxed, PrefixedLeaf, PrefixedBox, MeasuredLeaf, MeasuredBox, Repeat, Counted, Optional, Choice, Dispatch, Statement, Concluded, Hidden, Spanned, Instance, Separated}
 use Rattle.dfdl_checks.specs.Forms.{IsWhole, IsWholeUnsigned}
 use Rattle.dfdl_compile.specs.Primitives.{HasBareTypedLeaves, IsLeafOfType, IsOfType}
 use Rattle.dfdl_pieces.specs.Laying.{form_in, integer_form}
@@ -83,6 +83,8 @@ whole_row t wholes simple (Some (Dispatch question keys)) leaf = absurd leaf
 whole_row t wholes simple (Some (Statement statement)) leaf = absurd leaf
 whole_row t wholes simple (Some (Concluded behind body)) leaf = absurd leaf
 whole_row t wholes simple (Some (Hidden body)) leaf = absurd leaf
+whole_row t wholes simple (Some (Spanned body)) leaf = absurd leaf
+whole_row t wholes simple (Some (Instance statement body)) leaf = absurd leaf
 whole_row t wholes simple (Some (Separated policy position initiated slots)) leaf = absurd leaf
 whole_row t wholes simple None leaf = absurd leaf
 

@@ -1,6 +1,6 @@
 -- What is made of a text by its tree, or why nothing is.
-use Rattle.std.proofs.Common.{◌≡◌, ℕ, zero, suc, List, [], ◌∷◌, ◌+◌, ◌≤◌, ◌||◌, true, false, Option, Some, None, Result, Ok, Err, length, drop, refl, sym, ap, subst, ◌∙◌, arith, add-one}
-use Rattle.std.specs.List.{list_any, slice_get}
+use Rattle.std.proofs.Common.{◌≡◌, ℕ, List, Bool, true, false, if◌then◌else◌, Option, Some, None, Result, Ok, Err, refl, sym, ap, subst, ◌∙◌}
+use Rattle.std.specs.List.{list_any}
 use Rattle.dfdl_expressions.specs.declared.node.Node.{Node}
 use Rattle.dfdl_expression_text.specs.Expressions.{ReadsBytes, IsFaultOf}
 use Rattle.dfdl_expression_text.specs.declared.fault.ExpressionFault.{ExpressionFault}
@@ -19,35 +19,10 @@ use Rattle.dfdl_expression_compile.specs.declared.resolving.Resolved.{Resolved}
 use Rattle.dfdl_report.specs.declared.cause.SchemaCause.TheVariants.{ExpressionMalformed}
 use Rattle.dfdl_statements.specs.declared.fault.Fault.{Fault}
 use Rattle.dfdl_statements.specs.declared.fault.Fault.TheVariants.{Cause}
-use Rattle.dfdl_statements.specs.Making.{asks_length, checked, compiled, fitting, inside_braces}
-use Rattle.dfdl_statements.specs.MakingShown.{Gives, asks_in, malformed, unfit}
+use Rattle.dfdl_statements.specs.Making.{checked, compiled, fitting, inside_braces}
+use Rattle.dfdl_statements.specs.MakingShown.{Gives, malformed, unfit}
+use Rattle.dfdl_statements.specs.Unbound.{has_unbound, is_unbound_in}
 use Rattle.dfdl_statements.specs.Texts.{IsReading}
-
--- nodes from a number on, by that of the number
-from : (n : ℕ) (nodes : List Node) → list_any asks_length (drop n nodes) ≡ (asks_in (slice_get nodes n) || list_any asks_length (drop (suc n) nodes))
-from zero [] = refl
-from zero (x ∷ nodes) = refl
-from (suc n) [] = refl
-from (suc n) (x ∷ nodes) = from n nodes
-
-pub asks_found : (n : ℕ) (nodes : List Node) → list_any asks_length (drop n nodes) ≡ list_any asks_length nodes
-    → asks_in (slice_get nodes n) ≡ true → true ≡ list_any asks_length nodes
-asks_found n nodes same asks = sym (ap (λ b. b || list_any asks_length (drop (suc n) nodes)) asks) ∙ (sym (from n nodes) ∙ same)
-
-pub asks_further : (n : ℕ) (nodes : List Node) → list_any asks_length (drop n nodes) ≡ list_any asks_length nodes
-    → asks_in (slice_get nodes n) ≡ false → list_any asks_length (drop (n + 1) nodes) ≡ list_any asks_length nodes
-asks_further n nodes same asks =
-    rw add-one (sym (ap (λ b. b || list_any asks_length (drop (suc n) nodes)) asks) ∙ (sym (from n nodes) ∙ same))
-
-past : (n : ℕ) (nodes : List Node) → length nodes ≤ n → list_any asks_length (drop n nodes) ≡ false
-past zero [] end = refl
-past zero (x ∷ nodes) end = absurd (omega (arith, end))
-past (suc n) [] end = refl
-past (suc n) (x ∷ nodes) end = past n nodes (omega (arith, end))
-
-pub asks_none : (n : ℕ) (nodes : List Node) → list_any asks_length (drop n nodes) ≡ list_any asks_length nodes → length nodes ≤ n
-    → false ≡ list_any asks_length nodes
-asks_none n nodes same end = sym (past n nodes end) ∙ same
 
 -- any two readings of a text have one tree
 abbrev OneTree : Type 0
@@ -85,23 +60,39 @@ refused s wanted text (Some f) (text_fault.Malformed at) answer why reading same
 
 module _ (s : Statics) (wanted : Types) (text : List ℕ) (nodes : List TreeNode) (found : Option Formula) (one : OneTree) (tree : HasTree text nodes)
     (reading : IsReading text found) where
+  -- a text in whose tree a prefix isn't declared
+  pub unbound : (b : Bool) → b ≡ list_any (is_unbound_in s text) nodes → b ≡ true → Gives (compiled s wanted text found) (Err (Cause ExpressionMalformed))
+  unbound b same is =
+      let made = tree_listed one text nodes found tree reading in
+      let there : has_unbound s text made.0 ≡ true = ap (list_any (is_unbound_in s text)) (sym made.2) ∙ (sym same ∙ is) in
+      subst (λ o. Gives (compiled s wanted text o) (Err (Cause ExpressionMalformed))) (sym made.1)
+      (subst (λ (t : Bool). Gives (if t then Err ExpressionMalformed else checked (types_or_fault s text made.0) wanted (nodes_of s text made.0))
+      (Err (Cause ExpressionMalformed))) (sym there) refl)
+
+  -- what is made of a text in whose tree each prefix is declared
+  bound : (b : Bool) (answer : Result (List Node) Fault) (f : Formula) → b ≡ list_any (is_unbound_in s text) nodes → b ≡ false → nodes ≡ listed f 0
+      → Gives (checked (types_or_fault s text f) wanted (nodes_of s text f)) answer → Gives (compiled s wanted text (Some f)) answer
+  bound b answer f same is list given =
+      let there : has_unbound s text f ≡ false = ap (list_any (is_unbound_in s text)) (sym list) ∙ (sym same ∙ is) in
+      subst (λ (t : Bool). Gives (if t then Err ExpressionMalformed else checked (types_or_fault s text f) wanted (nodes_of s text f)) answer) (sym there) given
+
   -- a text whose tree was compiled
-  pub resolved : (r : Resolved) (answer : Result (List Node) Fault)
+  pub resolved : (b : Bool) → b ≡ list_any (is_unbound_in s text) nodes → b ≡ false → (r : Resolved) (answer : Result (List Node) Fault)
       → ((f : Formula) → nodes ≡ listed f 0 → Resolves (types_or_fault s text f) (nodes_of s text f) (Ok r))
       → Gives (fitting r.types wanted r.expression) answer → Gives (compiled s wanted text found) answer
-  resolved r answer all given =
+  resolved b same is r answer all given =
       let made = tree_listed one text nodes found tree reading in
       subst (λ o. Gives (compiled s wanted text o) answer) (sym made.1)
-      (checked_by (types_or_fault s text made.0) (nodes_of s text made.0) r wanted answer (all made.0 made.2) given)
+      (bound b answer made.0 same is made.2 (checked_by (types_or_fault s text made.0) (nodes_of s text made.0) r wanted answer (all made.0 made.2) given))
 
   -- a text in whose tree something doesn't fit
-  pub unresolved : (why : TypeFault) (answer : Fault)
+  pub unresolved : (b : Bool) → b ≡ list_any (is_unbound_in s text) nodes → b ≡ false → (why : TypeFault) (answer : Fault)
       → ((f : Formula) → nodes ≡ listed f 0 → Resolves (types_or_fault s text f) (nodes_of s text f) (Err why))
       → answer ≡ unfit why → Gives (compiled s wanted text found) (Err answer)
-  unresolved why answer all same =
+  unresolved b tests is why answer all same =
       let made = tree_listed one text nodes found tree reading in
       subst (λ o. Gives (compiled s wanted text o) (Err answer)) (sym made.1)
-      (unfit_by (types_or_fault s text made.0) (nodes_of s text made.0) wanted why answer (all made.0 made.2) same)
+      (bound b (Err answer) made.0 tests is made.2 (unfit_by (types_or_fault s text made.0) (nodes_of s text made.0) wanted why answer (all made.0 made.2) same))
 
 -- a text with braces, and one without
 pub inside_gives : (read : List ℕ → Option Formula) (s : Statics) (wanted : Types) (o : Option (List ℕ)) (text : List ℕ) (answer : Result (List Node) Fault)

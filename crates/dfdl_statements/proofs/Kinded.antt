@@ -1,5 +1,5 @@
 -- What is made of the text of a statement, by its kind.
-use Rattle.std.proofs.Common.{◌≡◌, ℕ, List, Bool, true, false, if◌then◌else◌, Option, Some, Result, Ok, Err, IfOk, refl, sym, ap, subst, ◌∙◌}
+use Rattle.std.proofs.Common.{◌≡◌, ℕ, List, Bool, true, false, if◌then◌else◌, Option, Some, None, Result, Ok, Err, IfOk, refl, sym, ap, subst, ◌∙◌}
 use Rattle.dfdl_forms.specs.declared.simple.Simple.{Simple}
 use Rattle.dfdl_value.specs.ReadValues.{reading_of}
 use Rattle.dfdl_expressions.specs.declared.node.Node.{Node}
@@ -17,7 +17,7 @@ use Rattle.dfdl_terms.specs.declared.statement.Statement.{Statement}
 use Rattle.dfdl_statements.specs.declared.written.Asked.{Asked}
 use Rattle.dfdl_statements.specs.declared.written.Source.{Source}
 use Rattle.dfdl_statements.specs.declared.written.Source.TheVariants as written
-use Rattle.dfdl_statements.specs.Making.{Nodes, as_calculation, as_question, as_setting, as_test, constant, expression, made, setting, setting_made, types_asked}
+use Rattle.dfdl_statements.specs.Making.{Nodes, as_calculation, as_opening, as_question, as_setting, as_test, bare_opening, constant, expression, made, opening_made, opening_with, setting, setting_made, types_asked}
 use Rattle.dfdl_statements.specs.MakingShown.{Gives, cause_in}
 
 module _ (read : List ℕ → Option Formula) (s : Statics) (wanted : Types) (text : List ℕ) (answer : Result (List Node) Fault) where
@@ -55,6 +55,10 @@ pub setting_cause : (target : Target) (due : Nodes) → cause_in due ≡ cause_i
 setting_cause target (Ok nodes) = refl
 setting_cause target (Err cause) = refl
 
+pub opening_cause : (target : Target) (due : Nodes) → cause_in due ≡ cause_in (as_opening target due)
+opening_cause target (Ok nodes) = refl
+opening_cause target (Err cause) = refl
+
 pub calculation_cause : (kind : Simple) (due : Nodes) → cause_in due ≡ cause_in (as_calculation kind due)
 calculation_cause kind (Ok nodes) = refl
 calculation_cause kind (Err cause) = refl
@@ -83,6 +87,10 @@ module _ (read : List ℕ → Option Formula) (s : Statics) (answer : Result Sta
   set_made text seen variable is same given =
       subst (λ o. Gives (made read s o) answer) (sym is) (subst (λ t. Gives (setting_made read s variable t) answer) same given)
 
+  pub opened_made : (text : Option (List ℕ)) (variable : Option Target) → source ≡ written.Opening variable text
+      → Gives (opening_made read s variable text) answer → Gives (made read s source) answer
+  opened_made text variable is given = subst (λ o. Gives (made read s o) answer) (sym is) given
+
   pub calculation_made : (text seen : List ℕ) (kind : Simple) (v : ValueType) (wanted : Types) (found : Result (List Node) Fault)
       → source ≡ written.Calculation kind text → seen ≡ text → wanted ≡ only v → v ≡ type_of kind → Gives (expression read s wanted seen) found
       → ((due : Nodes) → Gives due found → Gives (as_calculation kind due) answer) → Gives (made read s source) answer
@@ -105,6 +113,23 @@ pub target_made : (read : List ℕ → Option Formula) (s : Statics) (answer : R
 target_made read s answer text variable target found is given all =
     subst (λ o. Gives (setting_made read s o text) answer) (sym is) (all (setting read s target.kind text) given)
 
+-- what opens an instance of a variable by a text, without one, and if there is a variable
+pub start_made : (read : List ℕ → Option Formula) (s : Statics) (answer : Result Statement Fault) (start : Option (List ℕ)) (text seen : List ℕ) (target : Target)
+    (found : Result (List Node) Fault) → start ≡ Some text → seen ≡ text → Gives (setting read s target.kind seen) found
+    → ((due : Nodes) → Gives due found → Gives (as_opening target due) answer) → Gives (opening_with read s target start) answer
+start_made read s answer start text seen target found is same given all =
+    subst (λ o. Gives (opening_with read s target o) answer) (sym is)
+    (all (setting read s target.kind text) (subst (λ t. Gives (setting read s target.kind t) found) same given))
+
+pub bare_made : (read : List ℕ → Option Formula) (s : Statics) (answer : Statement) (start : Option (List ℕ)) (target : Target) → start ≡ None
+    → answer ≡ bare_opening target → Gives (opening_with read s target start) (Ok answer)
+bare_made read s answer start target is same =
+    subst (λ o. Gives (opening_with read s target o) (Ok answer)) (sym is) (ap Ok (sym same))
+
+pub opened_target : (read : List ℕ → Option Formula) (s : Statics) (answer : Result Statement Fault) (text : Option (List ℕ)) (variable : Option Target) (target : Target)
+    → variable ≡ Some target → Gives (opening_with read s target text) answer → Gives (opening_made read s variable text) answer
+opened_target read s answer text variable target is given = subst (λ o. Gives (opening_made read s o text) answer) (sym is) given
+
 module _ {E : Type 0} (read : List ℕ → Option Formula) (s : Statics) (r : Result (Option SchemaCause) E) where
   -- why nothing is made of each kind
   pub test_told : (source : Source) (text seen : List ℕ) (discriminates : Bool) (message : Option (List ℕ)) (wanted : Types) (found : Result (List Node) Fault)
@@ -122,6 +147,23 @@ module _ {E : Type 0} (read : List ℕ → Option Formula) (s : Statics) (r : Re
   set_told source text seen variable is same given =
       subst (λ o. IfOk r (λ cause. cause ≡ cause_in (made read s o))) (sym is)
       (subst (λ t. IfOk r (λ cause. cause ≡ cause_in (setting_made read s variable t))) same given)
+
+  pub opened_told : (source : Source) (text : Option (List ℕ)) (variable : Option Target) → source ≡ written.Opening variable text
+      → IfOk r (λ cause. cause ≡ cause_in (opening_made read s variable text)) → IfOk r (λ cause. cause ≡ cause_in (made read s source))
+  opened_told source text variable is given = subst (λ o. IfOk r (λ cause. cause ≡ cause_in (made read s o))) (sym is) given
+
+  pub start_told : (start : Option (List ℕ)) (text seen : List ℕ) (target : Target) (found : Result (List Node) Fault) → start ≡ Some text → seen ≡ text
+      → Gives (setting read s target.kind seen) found → ((due : Nodes) → Gives due found → IfOk r (λ cause. cause ≡ cause_in due))
+      → IfOk r (λ cause. cause ≡ cause_in (opening_with read s target start))
+  start_told start text seen target found is same given all =
+      let due = setting read s target.kind text in
+      subst (λ o. IfOk r (λ cause. cause ≡ cause_in (opening_with read s target o))) (sym is)
+      (caused r (cause_in due) (cause_in (as_opening target due)) (all due (subst (λ t. Gives (setting read s target.kind t) found) same given))
+      (opening_cause target due))
+
+  pub opened_target_told : (text : Option (List ℕ)) (variable : Option Target) (target : Target) → variable ≡ Some target
+      → IfOk r (λ cause. cause ≡ cause_in (opening_with read s target text)) → IfOk r (λ cause. cause ≡ cause_in (opening_made read s variable text))
+  opened_target_told text variable target is given = subst (λ o. IfOk r (λ cause. cause ≡ cause_in (opening_made read s o text))) (sym is) given
 
   pub calculation_told : (source : Source) (text seen : List ℕ) (kind : Simple) (v : ValueType) (wanted : Types) (found : Result (List Node) Fault)
       → source ≡ written.Calculation kind text → seen ≡ text → wanted ≡ only v → v ≡ type_of kind → Gives (expression read s wanted seen) found

@@ -7,3 +7,4 @@ mod Gathering
 mod Tables
 mod Refused
 mod Kinded
+mod Keys

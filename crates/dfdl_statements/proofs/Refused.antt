@@ -5,25 +5,29 @@ use Rattle.std.proofs.lemmas.Option.{slice_get_past, slice_get_read}
 use Rattle.dfdl_expression_tree.specs.Trees.{Formula}
 use Rattle.dfdl_expression_types.specs.declared.statics.Place.{Place}
 use Rattle.dfdl_terms.specs.declared.row.Row.{Row}
+use Rattle.dfdl_terms.specs.declared.slots.Slot.{Slot}
 use Rattle.dfdl_terms.specs.declared.statement.Statement.{Statement}
 use Rattle.dfdl_statements.specs.declared.fault.Refusal.{Refusal}
 use Rattle.dfdl_statements.specs.declared.sight.Sight.{Sight}
 use Rattle.dfdl_statements.specs.declared.standing.Standing.{Standing}
 use Rattle.dfdl_statements.specs.declared.written.Written.{Written}
-use Rattle.dfdl_statements.specs.Children.{children_in, children_of}
+use Rattle.dfdl_statements.specs.Children.{children_in, slots_in}
 use Rattle.dfdl_statements.specs.Elements.{arounds, or_else}
 use Rattle.dfdl_statements.specs.declared.fault.StatementFault.{StatementFault}
-use Rattle.dfdl_statements.specs.Settled.{first_told, lower, lowest, made_from, noted, places, places_by, refusal, refusal_by, refusal_of, refusals, row_refusal, settled_by}
+use Rattle.dfdl_statements.specs.Settled.{first_asked, first_told, lower, lowest, made_from, noted, places, places_by, refusal, refusal_by, refusal_of, refusals, row_refusal, settled_by}
 use Rattle.dfdl_statements.specs.SettledShown.{LooksAt, Settles}
-use Rattle.dfdl_statements.specs.Standing.{standings}
+use Rattle.dfdl_statements.specs.Standing.{slot_asked, slots_asked, standings}
 use Rattle.dfdl_statements.proofs.Tables.{one_more}
 
 module _ (rows : List Row) (written : List Written) (n : ℕ) where
-  pub place_put : (table : List (Option ℕ)) (list : List Standing) (old new : List (Option Place)) → table ≡ arounds rows → list ≡ standings rows written table n
-      → old ≡ places_by rows written n → new ≡ noted list old → new ≡ places_by rows written (n + 1)
-  place_put table list old new around is same grown =
+  pub place_put : (table : List (Option ℕ)) (list asked : List Standing) (old between new : List (Option Place)) → table ≡ arounds rows
+      → list ≡ standings rows written table n → asked ≡ slots_asked rows written table n → old ≡ places_by rows written n → between ≡ noted list old
+      → new ≡ noted asked between → new ≡ places_by rows written (n + 1)
+  place_put table list asked old between new around is asks same grown more =
       rw add-one
-      (grown ∙ (ap (λ l. noted l old) is ∙ (ap (λ t. noted (standings rows written t n) old) around ∙ ap (noted (standings rows written (arounds rows) n)) same)))
+      (more ∙ (ap (λ l. noted l between) asks ∙ (ap (λ t. noted (slots_asked rows written t n) between) around
+      ∙ ap (noted (slots_asked rows written (arounds rows) n))
+      (grown ∙ (ap (λ l. noted l old) is ∙ (ap (λ t. noted (standings rows written t n) old) around ∙ ap (noted (standings rows written (arounds rows) n)) same))))))
 
   module _ (read : List ℕ → Option Formula) (sight : Sight) where
     pub refusal_put : (old new : List (Option Refusal)) (found : Option Refusal) → old ≡ refusals read sight rows written n
@@ -32,15 +36,26 @@ module _ (rows : List Row) (written : List Written) (n : ℕ) where
         rw add-one
         (one_more old new (refusals read sight rows written n) found _ grown same (is ∙ ap (row_refusal read sight rows written n) same))
 
-    pub row_refused : (told : List (Option Refusal)) (table : List (Option ℕ)) (list : List Standing) (own inner found : Option Refusal) (row : Row) (children : List ℕ)
+    pub row_refused : (told : List (Option Refusal)) (table : List (Option ℕ)) (list : List Standing) (own inner found : Option Refusal) (row : Row)
         → table ≡ arounds rows → list ≡ standings rows written table n → own ≡ lowest read sight written None list → slice_get rows n ≡ Some row
-        → children ≡ children_of row → inner ≡ first_told told children → found ≡ or_else own inner → found ≡ row_refusal read sight rows written n told
-    row_refused told table list own inner found row children around is lowest_is there kids inner_is found_is =
+        → inner ≡ or_else (first_asked read sight rows written n told (slots_in (Some row))) (first_told told (children_in (Some row)))
+        → found ≡ or_else own inner → found ≡ row_refusal read sight rows written n told
+    row_refused told table list own inner found row around is lowest_is there inner_is found_is =
         found_is
         ∙ (ap (λ o. or_else o inner)
         (lowest_is ∙ (ap (lowest read sight written None) is ∙ ap (λ t. lowest read sight written None (standings rows written t n)) around))
         ∙ ap (or_else (lowest read sight written None (standings rows written (arounds rows) n)))
-        (inner_is ∙ (ap (first_told told) kids ∙ ap (λ r. first_told told (children_in r)) (sym there))))
+        (inner_is ∙ ap (λ r. or_else (first_asked read sight rows written n told (slots_in r)) (first_told told (children_in r))) (sym there)))
+
+-- the refusal of what a slot asks for
+pub slot_refused : {E : Type 0} (read : List ℕ → Option Formula) (sight : Sight) (rows : List Row) (written : List Written) (table : List (Option ℕ)) (row : ℕ)
+    (slot : Slot) (none list seen : List Standing) (r : Result (Option Refusal) E) → table ≡ arounds rows → none ≡ []
+    → list ≡ none ++ slot_asked rows written table row slot → seen ≡ list → IfOk r (λ found. found ≡ lowest read sight written None seen)
+    → IfOk r (λ found. found ≡ lowest read sight written None (slot_asked rows written (arounds rows) row slot))
+slot_refused read sight rows written table row slot none list seen r around empty grown sees given =
+    let is : seen ≡ slot_asked rows written (arounds rows) row slot
+    = sees ∙ (grown ∙ (ap (λ xs. xs ++ slot_asked rows written table row slot) empty ∙ ap (λ t. slot_asked rows written t row slot) around)) in
+    subst (λ xs. IfOk r (λ found. found ≡ lowest read sight written None xs)) is given
 
 module _ (read : List ℕ → Option Formula) (sight : Sight) (written : List Written) where
   -- the refusal of one statement more

@@ -2,7 +2,9 @@
 use Rattle.std.specs.Prelude.{ℕ, List, [], ◌∷◌, map, Option, Some, None}
 use Rattle.dfdl_forms.specs.declared.simple.Simple.{Simple}
 use Rattle.dfdl_terms.specs.declared.row.Row.{Row}
-use Rattle.dfdl_terms.specs.declared.row.Row.TheVariants.{Leaf, Elem, Group, Skip, Align, Initiator, Terminator, Separator, Scope, Boxed, PrefixedLeaf, PrefixedBox, MeasuredLeaf, MeasuredBox, Repeat, Counted, Optional, Choice, Dispatch, Statement, Concluded, Hidden, Separated}
+use Rattle.dfdl_terms.specs.declared.slots.Slot.{Slot}
+use Rattle.dfdl_statements.specs.declared.rows.Instance.{Instance as InstanceOf}
+use Rattle.dfdl_terms.specs.declared.row.Row.TheVariants.{Leaf, Elem, Group, Skip, Align, Initiator, Terminator, Separator, Scope, Boxed, PrefixedLeaf, PrefixedBox, MeasuredLeaf, MeasuredBox, Repeat, Counted, Optional, Choice, Dispatch, Statement, Concluded, Hidden, Spanned, Instance, Separated}
 
 -- their numbers, in schema order
 abbrev pub children_of : Row → List ℕ
@@ -28,6 +30,8 @@ children_of (Dispatch question keys) = map (λ key. key.body) keys
 children_of (Statement statement) = []
 children_of (Concluded behind body) = body ∷ []
 children_of (Hidden body) = body ∷ []
+children_of (Spanned body) = body ∷ []
+children_of (Instance statement body) = body ∷ []
 children_of (Separated policy position initiated slots) = map (λ slot. slot.body) slots
 
 -- the same, where there may be no row
@@ -67,3 +71,13 @@ abbrev pub question_in : Option Row → Option ℕ
 question_in (Some (Counted question body)) = Some question
 question_in (Some (Dispatch question keys)) = Some question
 question_in _ = None
+
+-- the slots of a row, which may ask how often what is in them occurs
+abbrev pub slots_in : Option Row → List Slot
+slots_in (Some (Separated policy position initiated slots)) = slots
+slots_in _ = []
+
+-- the instance of a variable that a row opens
+abbrev pub instance_in : Option Row → Option InstanceOf
+instance_in (Some (Instance statement body)) = Some (record { statement = statement; body = body })
+instance_in _ = None

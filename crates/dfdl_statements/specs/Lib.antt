@@ -1,6 +1,7 @@
 pub mod Braces
 pub mod Texts
 pub mod Sights
+pub mod Unbound
 pub mod Making
 pub mod MakingShown
 pub mod Children

@@ -1,7 +1,6 @@
 -- What is made of a statement that a schema writes, or why none is. 'DFDL Schema Component Model' (on asserts, discriminators and
 -- variables), 'DFDL Expression Language', 'Calculated Values', 'Lengths', 'Arrays and Optional Elements', 'Choices'.
 use Rattle.std.specs.Prelude.{◌≡◌, ℕ, Bool, true, false, if◌then◌else◌, List, [], ◌∷◌, Option, Some, None, Result, Ok, Err}
-use Rattle.std.specs.List.{list_any}
 use Rattle.dfdl_forms.specs.declared.simple.Simple.{Simple}
 use Rattle.dfdl_value.specs.declared.value.Value.{Value}
 use Rattle.dfdl_value.specs.declared.value.Value.TheVariants as value
@@ -9,8 +8,6 @@ use Rattle.dfdl_value.specs.declared.read.NoValue.{NoValue}
 use Rattle.dfdl_value.specs.ReadValues.{reading_of}
 use Rattle.dfdl_expressions.specs.declared.node.Node.{Node}
 use Rattle.dfdl_expressions.specs.declared.node.Node.TheVariants as node
-use Rattle.dfdl_expressions.specs.declared.operator.Question.{Question}
-use Rattle.dfdl_expressions.specs.declared.operator.Question.TheVariants as question
 use Rattle.dfdl_expression_tree.specs.Trees.{Formula}
 use Rattle.dfdl_expression_types.specs.declared.fault.TypeFault.{TypeFault}
 use Rattle.dfdl_expression_types.specs.declared.fault.TypeFault.TheVariants as fault
@@ -21,7 +18,7 @@ use Rattle.dfdl_expression_types.specs.TypeSets.{are_apart, every, only, type_of
 use Rattle.dfdl_expression_types.specs.Verdicts.{types_or_fault}
 use Rattle.dfdl_expression_compile.specs.Compiling.{nodes_of}
 use Rattle.dfdl_report.specs.declared.cause.SchemaCause.{SchemaCause}
-use Rattle.dfdl_report.specs.declared.cause.SchemaCause.TheVariants.{OutsideSubset, ExpressionMalformed, ExpressionType, PathNowhere, VariableMalformed}
+use Rattle.dfdl_report.specs.declared.cause.SchemaCause.TheVariants.{ExpressionMalformed, ExpressionType, PathNowhere, VariableMalformed}
 use Rattle.dfdl_scope.specs.Expressions.{is_expression, literal}
 use Rattle.dfdl_terms.specs.declared.statement.Statement.{Statement}
 use Rattle.dfdl_terms.specs.declared.statement.Statement.TheVariants as statement
@@ -32,27 +29,16 @@ use Rattle.dfdl_statements.specs.declared.written.Source.TheVariants as source
 use Rattle.dfdl_statements.specs.declared.written.Target.{Target}
 use Rattle.dfdl_statements.specs.declared.written.Written.{Written}
 use Rattle.dfdl_statements.specs.Braces.{unbraced}
+use Rattle.dfdl_statements.specs.Unbound.{has_unbound}
 
 -- the nodes of an expression, or why there are none
 abbrev pub Nodes : Type 0
 Nodes = Result (List Node) SchemaCause
 
-abbrev pub is_length : Question → Bool
-is_length (question.Length extent unit) = true
-is_length question.Item = false
-is_length question.Count = false
-is_length question.Exists = false
-is_length question.Empty = false
-
--- whether a node asks for the length of an element, which isn't kept
-abbrev pub asks_length : Node → Bool
-asks_length (node.Path question path indexes) = is_length question
-asks_length _ = false
-
 -- nodes of a value of these types, where one of some types is wanted
 abbrev pub fitting : Types → Types → List Node → Nodes
 fitting types wanted nodes =
-    if are_apart types wanted then Err ExpressionType else (if list_any asks_length nodes then Err OutsideSubset else Ok nodes)
+    if are_apart types wanted then Err ExpressionType else Ok nodes
 
 -- the same where the types may not fit, a path may lead nowhere, or a variable may not be declared
 abbrev pub checked : Result Types TypeFault → Types → List Node → Nodes
@@ -62,10 +48,11 @@ checked (Err fault.NoPath) wanted nodes = Err PathNowhere
 checked (Err fault.NoVariable) wanted nodes = Err VariableMalformed
 checked (Err fault.OutOfMemory) wanted nodes = Err ExpressionType
 
--- the nodes of a text with this tree, where a value of some types is wanted; without one it is no expression
+-- the nodes of a text with this tree, where a value of some types is wanted; without one it is no expression, nor is one in which a prefix
+-- isn't declared
 abbrev pub compiled : Statics → Types → List ℕ → Option Formula → Nodes
 compiled s wanted text None = Err ExpressionMalformed
-compiled s wanted text (Some f) = checked (types_or_fault s text f) wanted (nodes_of s text f)
+compiled s wanted text (Some f) = if has_unbound s text f then Err ExpressionMalformed else checked (types_or_fault s text f) wanted (nodes_of s text f)
 
 -- texts by what they are read as
 module _ (read : List ℕ → Option Formula) where
@@ -97,6 +84,14 @@ abbrev pub as_setting : Target → Nodes → Result Statement SchemaCause
 as_setting target (Ok nodes) = Ok (statement.Setting (record { variable = target.number; kind = target.kind; expression = nodes }))
 as_setting target (Err cause) = Err cause
 
+abbrev pub as_opening : Target → Nodes → Result Statement SchemaCause
+as_opening target (Ok nodes) = Ok (statement.Opening (record { variable = target.number; kind = target.kind; start = Some nodes }))
+as_opening target (Err cause) = Err cause
+
+-- what opens an instance that begins with what the variable does
+abbrev pub bare_opening : Target → Statement
+bare_opening target = statement.Opening (record { variable = target.number; kind = target.kind; start = None })
+
 abbrev pub as_calculation : Simple → Nodes → Result Statement SchemaCause
 as_calculation kind (Ok nodes) = Ok (statement.Calculation (record { kind = kind; expression = nodes }))
 as_calculation kind (Err cause) = Err cause
@@ -117,11 +112,22 @@ module _ (read : List ℕ → Option Formula) where
   setting_made s None text = Err VariableMalformed
   setting_made s (Some target) text = as_setting target (setting read s target.kind text)
 
+  -- what opens an instance of a variable, which begins with this if there is a text
+  abbrev pub opening_with : Statics → Target → Option (List ℕ) → Result Statement SchemaCause
+  opening_with s target None = Ok (bare_opening target)
+  opening_with s target (Some text) = as_opening target (setting read s target.kind text)
+
+  -- what opens an instance; one of a variable whose definition is malformed can't be opened
+  abbrev pub opening_made : Statics → Option Target → Option (List ℕ) → Result Statement SchemaCause
+  opening_made s None text = Err VariableMalformed
+  opening_made s (Some target) text = opening_with s target text
+
   -- the statement that is made of what is written, where it sees this
   abbrev pub made : Statics → Source → Result Statement SchemaCause
   made s (source.Pattern test) = Ok (statement.Pattern test)
   made s (source.Test text discriminates message) = as_test discriminates message (expression read s (only one.Truth) text)
   made s (source.Setting variable text) = setting_made s variable text
+  made s (source.Opening variable text) = opening_made s variable text
   made s (source.Calculation kind text) = as_calculation kind (expression read s (only (type_of kind)) text)
   made s (source.Question asked text) = as_question (expression read s (types_asked asked) text)
 
@@ -135,6 +141,7 @@ unused (source.Pattern test) = statement.Pattern test
 unused (source.Test text discriminates message) =
     statement.Expression (record { expression = never_asked; discriminates = discriminates; message = message })
 unused (source.Setting variable text) = statement.Expression (record { expression = never_asked; discriminates = false; message = None })
+unused (source.Opening variable text) = statement.Expression (record { expression = never_asked; discriminates = false; message = None })
 unused (source.Calculation kind text) = statement.Calculation (record { kind = kind; expression = never_asked })
 unused (source.Question asked text) = statement.Question (record { expression = never_asked })
 
@@ -145,6 +152,7 @@ IsCalculationOf kind (statement.Pattern test) = ⊥
 IsCalculationOf kind (statement.Expression test) = ⊥
 IsCalculationOf kind (statement.Setting setting) = ⊥
 IsCalculationOf kind (statement.Question question) = ⊥
+IsCalculationOf kind (statement.Opening opening) = ⊥
 
 -- what a row asks for
 abbrev pub IsQuestion : Statement → Type 0
@@ -153,12 +161,14 @@ IsQuestion (statement.Pattern test) = ⊥
 IsQuestion (statement.Expression test) = ⊥
 IsQuestion (statement.Setting setting) = ⊥
 IsQuestion (statement.Calculation calculation) = ⊥
+IsQuestion (statement.Opening opening) = ⊥
 
 -- of a calculation that is written a statement is one, of the same type, and of a question a question
 abbrev pub IsOfSource : Source → Statement → Type 0
 IsOfSource (source.Pattern test) s = Unit {0}
 IsOfSource (source.Test text discriminates message) s = Unit {0}
 IsOfSource (source.Setting variable text) s = Unit {0}
+IsOfSource (source.Opening variable text) s = Unit {0}
 IsOfSource (source.Calculation kind text) s = IsCalculationOf kind s
 IsOfSource (source.Question asked text) s = IsQuestion s
 

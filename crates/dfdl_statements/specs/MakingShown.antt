@@ -1,17 +1,15 @@
 -- Mirror for the prover: what is answered where something is made or refused.
-use Rattle.std.specs.Prelude.{◌≡◌, Bool, false, Option, Some, None, Result, Ok, Err}
+use Rattle.std.specs.Prelude.{◌≡◌, Option, Some, None, Result, Ok, Err}
 use Rattle.dfdl_value.specs.declared.read.ReadFault.{ReadFault}
 use Rattle.dfdl_value.specs.declared.read.ReadFault.TheVariants as unreadable
 use Rattle.dfdl_expression_text.specs.declared.fault.ExpressionFault.{ExpressionFault}
 use Rattle.dfdl_expression_text.specs.declared.fault.ExpressionFault.TheVariants as text
 use Rattle.dfdl_expression_types.specs.declared.fault.TypeFault.{TypeFault}
 use Rattle.dfdl_expression_types.specs.declared.fault.TypeFault.TheVariants as type
-use Rattle.dfdl_expressions.specs.declared.node.Node.{Node}
 use Rattle.dfdl_report.specs.declared.cause.SchemaCause.{SchemaCause}
 use Rattle.dfdl_report.specs.declared.cause.SchemaCause.TheVariants.{ExpressionMalformed, ExpressionType, PathNowhere, VariableMalformed}
 use Rattle.dfdl_statements.specs.declared.fault.Fault.{Fault}
 use Rattle.dfdl_statements.specs.declared.fault.Fault.TheVariants.{Cause, OutOfMemory}
-use Rattle.dfdl_statements.specs.Making.{asks_length}
 
 -- an answer is this one, or there was no memory
 abbrev pub Gives : {X : Type 0} → Result X SchemaCause → Result X Fault → Type 0
@@ -38,7 +36,3 @@ abbrev pub unread : ReadFault → Fault
 unread unreadable.NotAValue = Cause VariableMalformed
 unread unreadable.PastType = Cause VariableMalformed
 unread unreadable.OutOfMemory = OutOfMemory
-
-abbrev pub asks_in : Option Node → Bool
-asks_in None = false
-asks_in (Some n) = asks_length n

@@ -10,12 +10,13 @@ use Rattle.dfdl_statements.specs.declared.fault.Refusal.{Refusal}
 use Rattle.dfdl_statements.specs.declared.sight.Sight.{Sight}
 use Rattle.dfdl_statements.specs.declared.standing.Standing.{Standing}
 use Rattle.dfdl_statements.specs.declared.written.Written.{Written}
-use Rattle.dfdl_statements.specs.Children.{children_in}
+use Rattle.dfdl_terms.specs.declared.slots.Slot.{Slot}
+use Rattle.dfdl_statements.specs.Children.{children_in, slots_in}
 use Rattle.dfdl_statements.specs.Elements.{arounds, or_else}
 use Rattle.dfdl_statements.specs.Making.{made, unused}
 use Rattle.dfdl_statements.specs.MakingShown.{cause_in}
 use Rattle.dfdl_statements.specs.Sights.{statics_of}
-use Rattle.dfdl_statements.specs.Standing.{standings}
+use Rattle.dfdl_statements.specs.Standing.{slot_asked, slots_asked, standings}
 
 abbrev pub refused_at : Written → SchemaCause → Refusal
 refused_at written cause = record { cause = cause; place = written.place }
@@ -43,7 +44,7 @@ module _ (rows : List Row) (written : List Written) where
   -- where each statement stands by the first so many rows, the last of its places
   abbrev pub places_by : ℕ → List (Option Place)
   places_by zero = replicate (length written) None
-  places_by (suc n) = noted (standings rows written (arounds rows) n) (places_by n)
+  places_by (suc n) = noted (slots_asked rows written (arounds rows) n) (noted (standings rows written (arounds rows) n) (places_by n))
 
   -- where each statement stands; of several places it is the last, since these differ in what may be refused alone
   abbrev pub places : List (Option Place)
@@ -83,9 +84,18 @@ module _ (read : List ℕ → Option Formula) (sight : Sight) (written : List Wr
   lowest found (s ∷ others) = lowest (lower found (refusal_of s)) others
 
 module _ (read : List ℕ → Option Formula) (sight : Sight) (rows : List Row) (written : List Written) where
+  -- the first refusal of what slots of a row ask for, or of what is in them
+  abbrev pub first_asked : ℕ → List (Option Refusal) → List Slot → Option Refusal
+  first_asked row table [] = None
+  first_asked row table (slot ∷ slots) =
+      or_else (lowest read sight written None (slot_asked rows written (arounds rows) row slot))
+      (or_else (slice_index_or table slot.body None) (first_asked row table slots))
+
   -- the refusal of a row, or of what is inside of it, by those of the rows before it
   abbrev pub row_refusal : ℕ → List (Option Refusal) → Option Refusal
-  row_refusal row table = or_else (lowest read sight written None (standings rows written (arounds rows) row)) (first_told table (children_in (slice_get rows row)))
+  row_refusal row table =
+      or_else (lowest read sight written None (standings rows written (arounds rows) row))
+      (or_else (first_asked row table (slots_in (slice_get rows row))) (first_told table (children_in (slice_get rows row))))
 
   -- those of each of the first so many rows
   abbrev pub refusals : ℕ → List (Option Refusal)

@@ -4,8 +4,7 @@
 //!
 //! `declare` gives the elements of rows as paths see them, and the numbers of their names. `settle` makes the statements of what the
 //! schema wrote, or tells which is refused. `specs/Making.antt` says what is made of one where it stands, `specs/Standing.antt` where
-//! each stands, and `specs/Settled.antt` what all of them come to. `valueLength` and `contentLength` are refused as outside of the
-//! subset, since lengths of elements aren't kept.
+//! each stands, and `specs/Settled.antt` what all of them come to.
 #![tactic(auto)]
 
 mod braces;
@@ -13,6 +12,7 @@ mod declaring;
 mod fault;
 mod making;
 mod names;
+mod prefixes;
 mod rows;
 mod settling;
 mod sight;

@@ -1,6 +1,5 @@
 // What is made of a statement that a schema writes, where it stands.
 ghost use Rattle.std.specs.Prelude.{◌≡◌, ℕ, List, [], ◌∷◌, Option, Ok, Err, IfOk};
-ghost use Rattle.std.specs.List.{list_any, slice_get};
 ghost use Rattle.dfdl_value.specs.ReadValues.{reading_of};
 ghost use Rattle.dfdl_expressions.specs.declared.node.Node.TheVariants as NodeOf;
 ghost use Rattle.dfdl_expression_tree.specs.Readings.{HasTree};
@@ -12,59 +11,18 @@ ghost use Rattle.dfdl_statements.specs.MakingShown.{Gives};
 
 use crate::braces::unbraced;
 use crate::fault::Fault;
+use crate::prefixes::names_unbound;
 use crate::written::{Asked, Source, Target};
 use dfdl_expression_compile::{Resolved, resolve};
 use dfdl_expression_tree::laws::a_text_has_one_tree;
 use dfdl_expression_tree::{ExpressionFault, Tree, parse};
 use dfdl_expression_types::{Statics, TypeFault, Types, ValueType};
-use dfdl_expressions::{Expression, Node, Question as NodeQuestion, build};
+use dfdl_expressions::{Expression, Node, build};
 use dfdl_report::SchemaCause;
 use dfdl_scope::{is_expression, literal};
-use dfdl_terms::{Calculation, ExpressionTest, Question, Setting, Statement};
+use dfdl_terms::{Calculation, ExpressionTest, Opening, Question, Setting, Statement};
 use dfdl_value::{ReadFault, Simple, TextValue, Value};
 use std::alloc::{AllocError, Global};
-
-// Whether a node asks for the length of an element.
-fn asks_length(node: &Node) -> bool
-    ensures { result ≡ making.asks_length node.now }
-{
-    match node {
-        Node::Path { question, .. } => is_length(*question),
-        _ => false,
-    }
-}
-
-fn is_length(question: NodeQuestion) -> bool
-    ensures { result ≡ making.is_length question }
-{
-    match question {
-        NodeQuestion::Length(_, _) => true,
-        NodeQuestion::Item | NodeQuestion::Count | NodeQuestion::Exists | NodeQuestion::Empty =>
-            false,
-    }
-}
-
-// Whether the node of a number, if there is one, asks for the length of an element.
-fn asks_at(expression: &Expression, number: u32) -> bool
-    ensures { result ≡ shown.asks_in (slice_get expression.now number) }
-{
-    match expression.node(number) {
-        Some(node) => asks_length(node),
-        None => false,
-    }
-}
-
-// Whether some node of an expression asks for the length of an element.
-fn asks_lengths(expression: &Expression) -> bool
-    ensures { result ≡ list_any making.asks_length expression.now }
-{
-    for number in 0..expression.count() {
-        if asks_at(expression, number) {
-            return true;
-        }
-    }
-    false
-}
 
 // What is answered where a text is no expression.
 fn malformed(fault: ExpressionFault) -> Fault
@@ -96,9 +54,6 @@ fn fitting(resolved: Resolved, wanted: Types) -> Result<Expression, Fault>
     if types.both(wanted).is_empty() {
         return Err(Fault::Cause(SchemaCause::ExpressionType));
     }
-    if asks_lengths(&expression) {
-        return Err(Fault::Cause(SchemaCause::OutsideSubset));
-    }
     Ok(expression)
 }
 
@@ -114,6 +69,9 @@ fn compiled_tree(
     ensures { (found : Option Formula) → IsReading text.now found → Gives (making.compiled statics.now wanted text.now found) result }
 {
     a_text_has_one_tree();
+    if names_unbound(statics, text, tree) {
+        return Err(Fault::Cause(SchemaCause::ExpressionMalformed));
+    }
     match resolve(alloc, text, tree, statics) {
         Ok(resolved) => fitting(resolved, wanted),
         Err(fault) => Err(unfit(fault)),
@@ -285,6 +243,61 @@ fn setting_made(
     }
 }
 
+// What opens an instance by an expression.
+fn opening_of(found: Result<Expression, Fault>, target: Target) -> Result<Statement, Fault>
+    ensures { (due : making.Nodes) → Gives due found → Gives (making.as_opening target due) result }
+{
+    match found {
+        Ok(expression) => Ok(Statement::Opening(Opening {
+            variable: target.number,
+            kind: target.kind,
+            start: Some(expression),
+        })),
+        Err(fault) => Err(fault),
+    }
+}
+
+// What opens an instance that begins with what the variable does.
+fn bare_opening(target: Target) -> Statement
+    ensures { result ≡ making.bare_opening target }
+{
+    Statement::Opening(Opening {
+        variable: target.number,
+        kind: target.kind,
+        start: None,
+    })
+}
+
+// What opens an instance of a variable.
+fn opening_with(
+    alloc: Global,
+    statics: &Statics<'_>,
+    target: Target,
+    text: &Option<TextValue>,
+) -> Result<Statement, Fault>
+    ensures { (read : List ℕ → Option Formula) → ReadsTexts read → Gives (making.opening_with read statics.now target text.now) result }
+{
+    match text {
+        Some(text) => opening_of(setting(alloc, statics, target.kind, text.as_str()), target),
+        None => Ok(bare_opening(target)),
+    }
+}
+
+// What opens an instance of a variable, if there is one.
+fn opening_made(
+    alloc: Global,
+    statics: &Statics<'_>,
+    variable: Option<Target>,
+    text: &Option<TextValue>,
+) -> Result<Statement, Fault>
+    ensures { (read : List ℕ → Option Formula) → ReadsTexts read → Gives (making.opening_made read statics.now variable text.now) result }
+{
+    match variable {
+        Some(target) => opening_with(alloc, statics, target, text),
+        None => Err(Fault::Cause(SchemaCause::VariableMalformed)),
+    }
+}
+
 /// The statement that is made of what is written, where it sees this.
 pub(crate) fn make(alloc: Global, statics: &Statics<'_>, source: Source) -> Result<Statement, Fault>
     ensures answer { (read : List ℕ → Option Formula) → ReadsTexts read → Gives (making.made read statics.now source) result }
@@ -302,6 +315,7 @@ pub(crate) fn make(alloc: Global, statics: &Statics<'_>, source: Source) -> Resu
             test_of(found, discriminates, message)
         }
         Source::Setting { variable, text } => setting_made(alloc, statics, variable, text.as_str()),
+        Source::Opening { variable, text } => opening_made(alloc, statics, variable, &text),
         Source::Calculation { kind, text } => {
             let wanted = Types::only(ValueType::of(kind));
             let found = expression(alloc, statics, wanted, text.as_str());
@@ -334,6 +348,7 @@ pub(crate) fn unused(alloc: Global, source: Source) -> Result<Statement, Fault>
             ..
         } => test_of(never_asked(alloc), discriminates, message),
         Source::Setting { .. } => test_of(never_asked(alloc), false, None),
+        Source::Opening { .. } => test_of(never_asked(alloc), false, None),
         Source::Calculation { kind, .. } => calculation_of(never_asked(alloc), kind),
         Source::Question { .. } => question_of(never_asked(alloc)),
     }
@@ -375,6 +390,38 @@ fn setting_told(
     }
 }
 
+// Why no instance of a variable can begin so, if none can.
+fn start_told(
+    alloc: Global,
+    statics: &Statics<'_>,
+    target: Target,
+    text: &Option<TextValue>,
+) -> Result<Option<SchemaCause>, AllocError>
+    ensures { (read : List ℕ → Option Formula) → ReadsTexts read
+        → IfOk result (λ cause. cause ≡ shown.cause_in (making.opening_with read statics.now target text.now)) }
+{
+    match text {
+        Some(text) => told(setting(alloc, statics, target.kind, text.as_str())),
+        None => Ok(None),
+    }
+}
+
+// Why no instance of a variable can be opened so, if none can.
+fn opening_told(
+    alloc: Global,
+    statics: &Statics<'_>,
+    variable: Option<Target>,
+    text: &Option<TextValue>,
+) -> Result<Option<SchemaCause>, AllocError>
+    ensures { (read : List ℕ → Option Formula) → ReadsTexts read
+        → IfOk result (λ cause. cause ≡ shown.cause_in (making.opening_made read statics.now variable text.now)) }
+{
+    match variable {
+        Some(target) => start_told(alloc, statics, target, text),
+        None => Ok(Some(SchemaCause::VariableMalformed)),
+    }
+}
+
 /// Why no statement is made of what is written, where it sees this, if none is.
 pub(crate) fn judge(
     alloc: Global,
@@ -393,6 +440,7 @@ pub(crate) fn judge(
         Source::Setting { variable, text } => {
             setting_told(alloc, statics, *variable, text.as_str())
         }
+        Source::Opening { variable, text } => opening_told(alloc, statics, *variable, text),
         Source::Calculation { kind, text } => {
             let wanted = Types::only(ValueType::of(*kind));
             told(expression(alloc, statics, wanted, text.as_str()))

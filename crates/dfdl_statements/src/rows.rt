@@ -6,6 +6,13 @@ use dfdl_terms::{Key, Row, RowId, RowList, Slot};
 use dfdl_value::Simple;
 use std::alloc::{AllocError, Global};
 
+/// The statement that opens an instance, and the row inside of which it is open.
+#[derive(Clone, Copy)]
+pub(crate) struct Instance {
+    pub(crate) statement: u32,
+    pub(crate) body: RowId,
+}
+
 // The list of some rows.
 fn listed(alloc: Global, rows: &[RowId]) -> Result<RowList, AllocError>
     ensures { IfOk result (λ l. l ≡ rows.now) }
@@ -53,6 +60,8 @@ pub(crate) fn children_of(alloc: Global, row: &Row) -> Result<RowList, AllocErro
         Row::Dispatch { keys, .. } => keyed(alloc, keys.as_slice()),
         Row::Concluded { body, .. } => listed(alloc, &[*body]),
         Row::Hidden { body } => listed(alloc, &[*body]),
+        Row::Spanned { body } => listed(alloc, &[*body]),
+        Row::Instance { body, .. } => listed(alloc, &[*body]),
         Row::Separated { slots, .. } => bodies(alloc, slots.as_slice()),
         Row::Leaf { .. } => listed(alloc, &[]),
         Row::Skip { .. } => listed(alloc, &[]),
@@ -133,6 +142,38 @@ fn question_of(row: &Row) -> Option<u32>
     match row {
         Row::Counted { question, .. } => Some(*question),
         Row::Dispatch { question, .. } => Some(*question),
+        _ => None,
+    }
+}
+
+/// The slots of a row, which may ask how often what is in them occurs.
+pub(crate) fn slots_of(row: &Row) -> &[Slot]
+    ensures { result.now ≡ children.slots_in (Some row.now) }
+{
+    match row {
+        Row::Separated { slots, .. } => slots.as_slice(),
+        _ => &[],
+    }
+}
+
+/// The instance that the row of a number opens.
+pub(crate) fn instance_at(rows: &[Row], row: RowId) -> Option<Instance>
+    ensures { result ≡ children.instance_in (slice_get rows.now row) }
+{
+    match rows.get(row.number() as usize) {
+        Some(row) => instance_of(row),
+        None => None,
+    }
+}
+
+fn instance_of(row: &Row) -> Option<Instance>
+    ensures { result ≡ children.instance_in (Some row.now) }
+{
+    match row {
+        Row::Instance { statement, body } => Some(Instance {
+            statement: *statement,
+            body: *body,
+        }),
         _ => None,
     }
 }

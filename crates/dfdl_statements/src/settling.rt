@@ -7,7 +7,8 @@ ghost use Rattle.dfdl_terms.specs.declared.row.Row.{Row as RowOf};
 ghost use Rattle.dfdl_terms.specs.declared.statement.Statement.{Statement as StatementOf};
 ghost use Rattle.dfdl_statements.specs.declared.written.Written.{Written as WrittenOf};
 ghost use Rattle.dfdl_statements.specs.Elements.{arounds as arounds_of, or_else};
-ghost use Rattle.dfdl_statements.specs.Standing.{standings};
+ghost use Rattle.dfdl_statements.specs.Children.{children_in, slots_in};
+ghost use Rattle.dfdl_statements.specs.Standing.{slot_asked, slots_asked, standings};
 ghost use Rattle.dfdl_statements.specs.Texts.{ReadsTexts};
 ghost use Rattle.dfdl_statements.specs.Making.{IsMadeOf, unused as unused_source};
 ghost use Rattle.dfdl_statements.specs.MakingShown.{Gives};
@@ -16,14 +17,14 @@ ghost use Rattle.dfdl_statements.specs.SettledShown.{LooksAt, Settles, SettlesOn
 
 use crate::fault::{Fault, Refusal, StatementFault};
 use crate::making::{judge, make, unused};
-use crate::rows::children_of;
+use crate::rows::{children_of, slots_of};
 use crate::sight::{Sight, statics};
 use crate::standing::{Scene, Standing};
 use crate::tops::arounds;
 use crate::written::Written;
 use dfdl_expression_types::Place;
 use dfdl_report::{Place as PlaceInDocument, SchemaCause};
-use dfdl_terms::{Row, RowId, Statement};
+use dfdl_terms::{Row, RowId, Slot, Statement};
 use std::alloc::{AllocError, Global};
 
 // The refusal of a cause.
@@ -156,6 +157,82 @@ fn standings_at(
     Ok(list)
 }
 
+// The statements that the slots of a row ask.
+fn slots_asked_at(
+    alloc: Global,
+    scene: &Scene<'_, '_>,
+    number: usize,
+) -> Result<Vec<Standing>, AllocError>
+    requires few { length scene.now.rows.now < 2 ^ 32 }
+    requires within { number < length scene.now.rows.now }
+    ensures { IfOk result (λ list. list.items ≡ slots_asked scene.now.rows.now scene.now.written.now scene.now.arounds.now number) }
+{
+    let mut list = Vec::new(alloc);
+    scene.push_slots_asked(&mut list, RowId::new(number as u32), &scene.rows[number])?;
+    Ok(list)
+}
+
+// The refusal of what a slot of a row asks for.
+fn slot_refusal(
+    alloc: Global,
+    sight: &Sight<'_>,
+    scene: &Scene<'_, '_>,
+    row: RowId,
+    slot: Slot,
+) -> Result<Option<Refusal>, AllocError>
+    requires arounds { scene.now.arounds.now ≡ arounds_of scene.now.rows.now }
+    ensures { (read : List ℕ → Option Formula) → ReadsTexts read
+        → IfOk result (λ found. found ≡ spec.lowest read sight.now scene.now.written.now None
+        (slot_asked scene.now.rows.now scene.now.written.now (arounds_of scene.now.rows.now) row slot)) }
+{
+    let mut list = Vec::new(alloc);
+    scene.push_slot_asked(&mut list, row, slot)?;
+    lowest(alloc, sight, scene.written, list.as_slice())
+}
+
+// The first refusal of what slots of a row ask for, or of what is in them.
+fn first_asked(
+    alloc: Global,
+    sight: &Sight<'_>,
+    scene: &Scene<'_, '_>,
+    row: RowId,
+    slots: &[Slot],
+    table: &[Option<Refusal>],
+) -> Result<Option<Refusal>, AllocError>
+    requires arounds { scene.now.arounds.now ≡ arounds_of scene.now.rows.now }
+    ensures { (read : List ℕ → Option Formula) → ReadsTexts read
+        → IfOk result (λ found. found ≡ spec.first_asked read sight.now scene.now.rows.now scene.now.written.now row table.now slots.now) }
+{
+    for slot in slots {
+        let asked = slot_refusal(alloc, sight, scene, row, *slot)?;
+        let refusal = or_else(asked, entry(table, slot.body));
+        if refusal.is_some() {
+            return Ok(refusal);
+        }
+    }
+    Ok(None)
+}
+
+// The refusal of what is inside of a row.
+fn inner_refusal(
+    alloc: Global,
+    sight: &Sight<'_>,
+    scene: &Scene<'_, '_>,
+    id: RowId,
+    row: &Row,
+    table: &[Option<Refusal>],
+) -> Result<Option<Refusal>, AllocError>
+    requires arounds { scene.now.arounds.now ≡ arounds_of scene.now.rows.now }
+    ensures { (read : List ℕ → Option Formula) → ReadsTexts read
+        → IfOk result (λ found. found
+        ≡ or_else (spec.first_asked read sight.now scene.now.rows.now scene.now.written.now id table.now (slots_in (Some row.now)))
+        (spec.first_told table.now (children_in (Some row.now)))) }
+{
+    let asked = first_asked(alloc, sight, scene, id, slots_of(row), table)?;
+    let children = children_of(alloc, row)?;
+    Ok(or_else(asked, first_told(table, children.as_slice())))
+}
+
 // The refusal of a row, or of what is inside of it.
 fn row_refusal(
     alloc: Global,
@@ -172,8 +249,9 @@ fn row_refusal(
 {
     let list = standings_at(alloc, scene, number)?;
     let own = lowest(alloc, sight, scene.written, list.as_slice())?;
-    let children = children_of(alloc, &scene.rows[number])?;
-    Ok(or_else(own, first_told(table, children.as_slice())))
+    let id = RowId::new(number as u32);
+    let inner = inner_refusal(alloc, sight, scene, id, &scene.rows[number], table)?;
+    Ok(or_else(own, inner))
 }
 
 // The refusals of all rows.
@@ -246,6 +324,8 @@ fn places(alloc: Global, scene: &Scene<'_, '_>) -> Result<Vec<Option<Place>>, Al
     for number in 0..scene.rows.len() {
         let list = standings_at(alloc, scene, number)?;
         note(&mut all, list.as_slice());
+        let asked = slots_asked_at(alloc, scene, number)?;
+        note(&mut all, asked.as_slice());
     }
     Ok(all)
 }

@@ -3,10 +3,10 @@ ghost use Rattle.std.specs.Prelude.{◌≡◌, ◌<◌, ◌++◌, ◌∷◌, [],
 ghost use Rattle.std.specs.List.{flat_map};
 ghost use Rattle.dfdl_statements.specs.Standing as spec;
 
-use crate::rows::{group_at, question_at, statement_at};
+use crate::rows::{group_at, instance_at, question_at, slots_of, statement_at};
 use crate::written::{Asked, Source, Written};
 use dfdl_expression_types::Place;
-use dfdl_terms::{Row, RowId, Statements};
+use dfdl_terms::{Row, RowId, Slot, Statements};
 use std::alloc::AllocError;
 
 /// A statement, and a place where it stands.
@@ -79,6 +79,7 @@ fn source_place(source: &Source, around: Option<usize>) -> Place
         Source::Pattern(_) => in_element(around),
         Source::Test { .. } => in_element(around),
         Source::Setting { .. } => in_element(around),
+        Source::Opening { .. } => in_element(around),
     }
 }
 
@@ -175,6 +176,68 @@ impl<'r, 'w> Scene<'r, 'w> {
         }
     }
 
+    // The statement that opens an instance at a row.
+    fn push_instance(
+        &self,
+        list: &mut Vec<Standing>,
+        row: RowId,
+        statement: u32,
+    ) -> Result<(), AllocError>
+        ensures { OnOk result (list.new.items ≡ list.old.items
+            ++ spec.standing_of statement (spec.row_place (slice_get self.now.written.now statement) (spec.around_at self.now.arounds.now row)) ∷ []) }
+    {
+        let place = row_place(self.written, statement, around_at(self.arounds, row));
+        push(list, statement as usize, place)
+    }
+
+    // Those of instances that a row opens, one inside of the other, and of the group inside of them.
+    fn push_begun(&self, list: &mut Vec<Standing>, row: RowId) -> Result<(), AllocError>
+        ensures { OnOk result (list.new.items ≡ list.old.items ++ spec.begun self.now.rows.now self.now.written.now self.now.arounds.now row) }
+    {
+        let mut at = row;
+        for _ in 0..self.rows.len() {
+            match instance_at(self.rows, at) {
+                Some(instance) => {
+                    self.push_instance(list, at, instance.statement)?;
+                    at = instance.body;
+                }
+                None => return self.push_grouped(list, at),
+            }
+        }
+        Ok(())
+    }
+
+    // A row is a statement, and another opens an instance.
+    fn opens_behind(&self, first: RowId, last: RowId) -> bool
+        ensures { result ≡ spec.opens_behind self.now.rows.now self.now.written.now self.now.arounds.now first last }
+    {
+        statement_at(self.rows, first).is_some() && instance_at(self.rows, last).is_some()
+    }
+
+    // Those of the instances that the last one of some rows opens, where the first of them is a test.
+    fn push_tested_by(&self, list: &mut Vec<Standing>, rows: &[RowId]) -> Result<(), AllocError>
+        ensures { OnOk result (list.new.items ≡ list.old.items ++ spec.tested_by self.now.rows.now self.now.written.now self.now.arounds.now rows.now) }
+    {
+        if rows.is_empty() {
+            return Ok(());
+        }
+        let last = rows[rows.len() - 1];
+        if self.opens_behind(rows[0], last) {
+            self.push_begun(list, last)?;
+        }
+        Ok(())
+    }
+
+    // Those of the instances that are opened behind tests, right inside of a group.
+    fn push_tested(&self, list: &mut Vec<Standing>, row: RowId) -> Result<(), AllocError>
+        ensures { OnOk result (list.new.items ≡ list.old.items ++ spec.tested self.now.rows.now self.now.written.now self.now.arounds.now row) }
+    {
+        match group_at(self.rows, row) {
+            Some(children) => self.push_tested_by(list, children),
+            None => Ok(()),
+        }
+    }
+
     // What a row asks for that is a choice, or that repeats an element.
     fn push_asked(&self, list: &mut Vec<Standing>, row: RowId) -> Result<(), AllocError>
         ensures { OnOk result (list.new.items ≡ list.old.items ++ spec.asked self.now.rows.now self.now.written.now self.now.arounds.now row) }
@@ -191,21 +254,57 @@ impl<'r, 'w> Scene<'r, 'w> {
     // The statements of a row that opens nothing.
     fn push_own(&self, list: &mut Vec<Standing>, row: RowId) -> Result<(), AllocError>
         ensures { OnOk result (list.new.items ≡ list.old.items
-            ++ (spec.grouped self.now.rows.now self.now.written.now self.now.arounds.now row
+            ++ (spec.begun self.now.rows.now self.now.written.now self.now.arounds.now row
             ++ spec.asked self.now.rows.now self.now.written.now self.now.arounds.now row)) }
     {
-        self.push_grouped(list, row)?;
+        self.push_begun(list, row)?;
         self.push_asked(list, row)
     }
 
-    // The statements behind an element, a sequence or a choice, and those of the group right inside.
+    // The statements behind an element, a sequence or a choice, those that open instances, and those of the group right inside.
     fn push_opened(&self, list: &mut Vec<Standing>, opening: Opening) -> Result<(), AllocError>
         ensures { OnOk result (list.new.items ≡ list.old.items
             ++ (spec.standings_from opening.behind.first opening.behind.count opening.place
-            ++ spec.grouped self.now.rows.now self.now.written.now self.now.arounds.now opening.body)) }
+            ++ (spec.begun self.now.rows.now self.now.written.now self.now.arounds.now opening.body
+            ++ spec.tested self.now.rows.now self.now.written.now self.now.arounds.now opening.body))) }
     {
         push_all(list, opening.behind, opening.place)?;
-        self.push_grouped(list, opening.body)
+        self.push_begun(list, opening.body)?;
+        self.push_tested(list, opening.body)
+    }
+
+    /// What a slot of a row asks for.
+    pub(crate) fn push_slot_asked(
+        &self,
+        list: &mut Vec<Standing>,
+        row: RowId,
+        slot: Slot,
+    ) -> Result<(), AllocError>
+        ensures { OnOk result (list.new.items ≡ list.old.items ++ spec.slot_asked self.now.rows.now self.now.written.now self.now.arounds.now row slot) }
+    {
+        match slot.question {
+            Some(question) => {
+                let place = row_place(self.written, question, around_at(self.arounds, row));
+                push(list, question as usize, place)
+            }
+            None => Ok(()),
+        }
+    }
+
+    /// What the slots of a row ask for.
+    pub(crate) fn push_slots_asked(
+        &self,
+        list: &mut Vec<Standing>,
+        id: RowId,
+        row: &Row,
+    ) -> Result<(), AllocError>
+        requires { slice_get self.now.rows.now id ≡ Some row.now }
+        ensures { OnOk result (list.new.items ≡ list.old.items ++ spec.slots_asked self.now.rows.now self.now.written.now self.now.arounds.now id) }
+    {
+        for slot in slots_of(row) {
+            self.push_slot_asked(list, id, *slot)?;
+        }
+        Ok(())
     }
 
     /// Adds the statements that a component begins with at a row.

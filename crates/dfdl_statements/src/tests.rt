@@ -7,7 +7,7 @@ use crate::{Asked, Sight, Source, StatementFault, Target, Written, declare, sett
 use dfdl_expression_types::Variable;
 use dfdl_report::Place;
 use dfdl_terms::{
-    LengthUnit, Measure, Representations, Row, RowId, RowList, Statement, Statements,
+    LengthUnit, Measure, Representations, Row, RowId, RowList, Statement, Statements, WhereTried,
 };
 use dfdl_value::{Simple, TextValue};
 use std::alloc::{AllocError, Global};
@@ -29,6 +29,11 @@ fn element(
             empty: None,
             refuses_empty: false,
             are_several: false,
+            where_tried: WhereTried {
+                empty: None,
+                refuses_empty: false,
+                are_several: false,
+            },
         },
         behind: Statements { first, count: 1 },
         body: RowId::new(body),
@@ -167,6 +172,7 @@ fn statements_are_made(rt: HostRuntime) -> Result<(), Fail> {
     let alloc = rt.alloc();
     assert!(&rt; are_made(alloc, "{ . gt 0 }", "{ 5 }", "{ /r/x lt 5 }")?);
     assert!(&rt; are_made(alloc, "{ ../x gt 0 }", "-7", "{ $v eq x }")?);
+    assert!(&rt; are_made(alloc, "{ fn:not(. gt 0) }", "{ 5 }", "{ x lt 5 }")?);
     assert!(&rt; are_made(alloc, "{ . gt 0 }", "{ ../x }", "{ x lt 5 }")?);
     Ok(())
 }
@@ -176,6 +182,8 @@ fn tests_are_refused(rt: HostRuntime) -> Result<(), Fail> {
     let alloc = rt.alloc();
     assert!(&rt; is_refused(alloc, ". gt 0", 34)?);
     assert!(&rt; is_refused(alloc, "{ . gt }", 34)?);
+    assert!(&rt; is_refused(alloc, "{ q:not(. gt 0) }", 34)?);
+    assert!(&rt; is_refused(alloc, "{ . gt $q:v }", 34)?);
     assert!(&rt; is_refused(alloc, "{ . gt 'a' }", 35)?);
     assert!(&rt; is_refused(alloc, "{ . + 1 }", 35)?);
     assert!(&rt; is_refused(alloc, "{ x gt 0 }", 36)?);
@@ -200,7 +208,7 @@ fn the_outermost_refusal_is_told(rt: HostRuntime) -> Result<(), Fail> {
     assert!(&rt; is_last_refused(alloc, "{ . gt 0 }", "{ y lt 5 }", 36)?);
     assert!(&rt; is_last_refused(alloc, "{ . gt }", "{ x lt }", 34)?);
     let length = "{ dfdl:valueLength(x, 'bits') lt 5 }";
-    assert!(&rt; is_last_refused(alloc, "{ . gt 0 }", length, 35)?);
+    assert!(&rt; is_last_refused(alloc, "{ . gt 0 }", length, 34)?);
     Ok(())
 }
 
@@ -288,5 +296,82 @@ fn questions_are_made_or_refused(rt: HostRuntime) -> Result<(), Fail> {
     assert!(&rt; questions_come_to(alloc, "{ ../x }", "{ x }", 36, 3)?);
     assert!(&rt; questions_come_to(alloc, "{ 2 }", "2", 34, 3)?);
     assert!(&rt; questions_come_to(alloc, "{ 2 gt }", "{ 'a' }", 35, 3)?);
+    Ok(())
+}
+
+fn opening(alloc: Global, text: &str) -> Result<Source, AllocError> {
+    let variable = Some(Target {
+        number: 0,
+        kind: Simple::Int,
+    });
+    if text.is_empty() {
+        return Ok(Source::Opening {
+            variable,
+            text: None,
+        });
+    }
+    let text = TextValue::from_str(alloc, text)?;
+    Ok(Source::Opening {
+        variable,
+        text: Some(text),
+    })
+}
+
+// In r an instance is open in which something is set.
+fn opening_rows(alloc: Global) -> Result<Vec<Row>, AllocError>
+    ensures { IfOk result (λ all. length all.items ≡ 6) }
+{
+    let mut all = Vec::new(alloc);
+    all.push(Row::Leaf { prim: 0 })?;
+    all.push(element(alloc, "x", Some(Simple::Int), 0, 0)?)?;
+    all.push(Row::Statement { statement: 1 })?;
+    let children = Vec::from_slice(alloc, &[RowId::new(2), RowId::new(1)])?;
+    all.push(Row::Group {
+        children: RowList::new(children),
+    })?;
+    let body = RowId::new(3);
+    all.push(Row::Instance { statement: 2, body })?;
+    all.push(element(alloc, "r", None, 3, 4)?)?;
+    Ok(all)
+}
+
+// What an instance, a setting in it and a test behind r come to.
+fn told_of_opening(
+    alloc: Global,
+    start: &str,
+    set: &str,
+    last: &str,
+) -> Result<Answer, AllocError> {
+    let prefixes = BTreeMap::new(alloc);
+    let rows = opening_rows(alloc)?;
+    let mut all = Vec::new(alloc);
+    all.push(written(test(alloc, "{ . gt 0 }")?, 1, &prefixes))?;
+    all.push(written(setting(alloc, set)?, 2, &prefixes))?;
+    all.push(written(opening(alloc, start)?, 3, &prefixes))?;
+    all.push(written(test(alloc, last)?, 4, &prefixes))?;
+    settled(alloc, rows.as_slice(), all)
+}
+
+fn opening_comes_to(
+    alloc: Global,
+    start: &str,
+    set: &str,
+    last: &str,
+    cause: u8,
+    at: u64,
+) -> Result<bool, AllocError> {
+    let told = told_of_opening(alloc, start, set, last)?;
+    Ok(told.cause == cause && told.at == at)
+}
+
+#[test]
+fn instances_are_opened_or_refused(rt: HostRuntime) -> Result<(), Fail> {
+    let alloc = rt.alloc();
+    assert!(&rt; opening_comes_to(alloc, "{ $v + 1 }", "1", "{ x lt 5 }", 0, 0)?);
+    assert!(&rt; opening_comes_to(alloc, "", "{ 1 }", "{ x lt 5 }", 0, 0)?);
+    assert!(&rt; opening_comes_to(alloc, "a", "1", "{ x lt 5 }", 37, 3)?);
+    assert!(&rt; opening_comes_to(alloc, "{ 'a' }", "1", "{ x lt 5 }", 35, 3)?);
+    assert!(&rt; opening_comes_to(alloc, "{ 'a' }", "{ 1", "{ x lt 5 }", 34, 2)?);
+    assert!(&rt; opening_comes_to(alloc, "{ 'a' }", "a", "{ y lt }", 34, 4)?);
     Ok(())
 }

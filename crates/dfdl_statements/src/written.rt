@@ -3,7 +3,7 @@ use dfdl_terms::PatternTest;
 use dfdl_value::{Simple, TextValue};
 use std::collections::BTreeMap;
 
-/// A variable that a statement sets.
+/// A variable that a statement sets, or of which it opens an instance.
 #[derive(Debug, Clone, Copy, PartialEq, Eq)]
 pub struct Target {
     /// Its number in the tables.
@@ -40,6 +40,12 @@ pub enum Source {
     Setting {
         variable: Option<Target>,
         text: TextValue,
+    },
+    /// An instance of a variable is opened, which begins with this, or without a text with what the variable does. Where the variable's
+    /// definition is malformed there is none.
+    Opening {
+        variable: Option<Target>,
+        text: Option<TextValue>,
     },
     /// The value of an element that has no representation.
     Calculation {

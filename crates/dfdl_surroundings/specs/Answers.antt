@@ -1,6 +1,6 @@
 -- What an expression is answered while data is parsed. 'DFDL Expression Language'. The causes of faults are those of expressions: 1, there
 -- is no such item, or it isn't known yet; 2, there are several; 3, it has no value; 7, the variable has no value.
-use Rattle.std.specs.Prelude.{ℕ, nat_lt, if◌then◌else◌, List, length, Option, Some, None, Result, Ok, Err, pos, slice_index_or}
+use Rattle.std.specs.Prelude.{ℕ, nat_lt, if◌then◌else◌, List, length, Option, Some, None, Result, Ok, Err, pos, slice_get}
 use Rattle.dfdl_value.specs.declared.value.Value.{Value}
 use Rattle.dfdl_value.specs.declared.value.Value.TheVariants.{Int}
 use Rattle.dfdl_expressions.specs.declared.operator.Extent.{Extent}
@@ -9,6 +9,8 @@ use Rattle.dfdl_expressions.specs.declared.path.Path.{Path}
 use Rattle.dfdl_expression_eval.specs.Asks.{Query, Item, Count, Length, Variable, OccursIndex}
 use Rattle.dfdl_expression_eval.specs.declared.env.Evaluated.{Evaluated}
 use Rattle.dfdl_expression_eval.specs.declared.env.Evaluated.TheVariants.{Known, Fault}
+use Rattle.dfdl_region.specs.declared.node.Lengths.{Lengths}
+use Rattle.dfdl_region.specs.declared.node.Node.{Node}
 use Rattle.dfdl_paths.specs.declared.found.Found.{Found}
 use Rattle.dfdl_paths.specs.declared.found.Found.TheVariants as found
 use Rattle.dfdl_paths.specs.declared.place.Start.{Start}
@@ -16,7 +18,6 @@ use Rattle.dfdl_paths.specs.declared.place.Start.TheVariants as start
 use Rattle.dfdl_paths.specs.Leads.{items}
 use Rattle.dfdl_paths.specs.Values.{found_of, found_value, index_of}
 use Rattle.dfdl_vars.specs.Kept.{Kept, place_now, value_of, with_read}
-use Rattle.dfdl_surroundings.specs.declared.lengths.Lengths.{Lengths}
 use Rattle.dfdl_surroundings.specs.Around.{Around, Seen}
 
 -- a whole number, as the value that carries it
@@ -43,11 +44,16 @@ abbrev pub length_told : Extent → Option Lengths → Evaluated
 length_told extent None = Fault 1
 length_told extent (Some lengths) = whole (length_in extent lengths)
 
+-- what is known of the lengths of an element, if there is one
+abbrev pub lengths_of : Option Node → Option Lengths
+lengths_of None = None
+lengths_of (Some node) = node.lengths
+
 -- the length of the only item: there may be none (1) or several (2)
-abbrev pub found_length : List (Option Lengths) → Extent → Found → Evaluated
-found_length lengths extent found.None = Fault 1
-found_length lengths extent (found.One number) = length_told extent (slice_index_or lengths number None)
-found_length lengths extent found.Several = Fault 2
+abbrev pub found_length : List Node → Extent → Found → Evaluated
+found_length nodes extent found.None = Fault 1
+found_length nodes extent (found.One number) = length_told extent (lengths_of (slice_get nodes number))
+found_length nodes extent found.Several = Fault 2
 
 -- the element that has the expression, or in which the group stands that has it
 abbrev pub element_of : Start → ℕ
@@ -74,7 +80,7 @@ around seen variables = record { seen = seen; variables = variables }
 abbrev pub answer_in : Around → Query → Evaluated
 answer_in around (Item path places) = told (found_value around.seen.nodes around.seen.text (found_of (items_of around.seen path places)))
 answer_in around (Count path places) = whole (length (items_of around.seen path places))
-answer_in around (Length path places extent) = found_length around.seen.lengths extent (found_of (items_of around.seen path places))
+answer_in around (Length path places extent) = found_length around.seen.nodes extent (found_of (items_of around.seen path places))
 answer_in around (Variable number) = told_or 7 (variable_value around.variables number)
 answer_in around OccursIndex = whole (index_of around.seen.marks around.seen.nodes (element_of around.seen.start))
 

@@ -3,15 +3,13 @@ use Rattle.std.specs.Prelude.{ℕ, Bool, List, Option}
 use Rattle.dfdl_region.specs.declared.node.Node.{Node}
 use Rattle.dfdl_paths.specs.declared.place.Start.{Start}
 use Rattle.dfdl_vars.specs.Kept.{Kept}
-use Rattle.dfdl_surroundings.specs.declared.lengths.Lengths.{Lengths}
 
--- What is seen of a document: the number of the name of each row's element, the elements that have begun, the bytes of their texts, how
--- long each element is, by its number, as far as that is known, which rows are those of items of arrays, and what has the expression.
+-- What is seen of a document: the number of the name of each row's element, the elements that have begun, the bytes of their texts, which
+-- rows are those of items of arrays, and what has the expression.
 pub record Seen : Type 0 where
   pub names : List (Option ℕ)
   pub nodes : List Node
   pub text : List ℕ
-  pub lengths : List (Option Lengths)
   pub marks : List Bool
   pub start : Start
 

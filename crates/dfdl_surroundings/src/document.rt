@@ -3,7 +3,7 @@ ghost use Rattle.std.specs.Prelude.{◌≡◌, ◌<◌, ◌^◌, IfOk, length};
 ghost use Rattle.dfdl_paths.specs.Values.{found_of, found_value, index_of};
 ghost use Rattle.dfdl_surroundings.specs.Answers.{element_of, found_length, items_of, told, whole};
 
-use super::lengths::{Lengths, found_length, whole};
+use super::lengths::{found_length, whole};
 use dfdl_expression_eval::{Evaluated, OutOfMemory};
 use dfdl_expressions::{Extent, Path};
 use dfdl_paths::{
@@ -19,7 +19,6 @@ pub struct Document<'a> {
     names: &'a NameNumbers,
     nodes: &'a [Node],
     text: &'a [u8],
-    lengths: &'a [Option<Lengths>],
     items: &'a Items,
     start: Start,
 }
@@ -34,7 +33,6 @@ impl<'a> Model for Document<'a> {
       names = d.names.now;
       nodes = d.nodes.now;
       text = d.text.now;
-      lengths = d.lengths.now;
       marks = d.items.now;
       start = d.start;
     } };
@@ -43,13 +41,11 @@ impl<'a> Model for Document<'a> {
 }
 
 impl<'a> Document<'a> {
-    /// `text` has the bytes of the elements' texts. `lengths` are by the elements' numbers; an element that has none there, or whose
-    /// number is behind their end, has none that is known yet.
+    /// `text` has the bytes of the elements' texts.
     pub fn new(
         names: &'a NameNumbers,
         nodes: &'a [Node],
         text: &'a [u8],
-        lengths: &'a [Option<Lengths>],
         items: &'a Items,
         start: Start,
     ) -> Document<'a>
@@ -58,7 +54,6 @@ impl<'a> Document<'a> {
           names = names.now;
           nodes = nodes.now;
           text = text.now;
-          lengths = lengths.now;
           marks = items.now;
           start = start;
         } }
@@ -67,7 +62,6 @@ impl<'a> Document<'a> {
             names,
             nodes,
             text,
-            lengths,
             items,
             start,
         }
@@ -101,10 +95,10 @@ impl<'a> Document<'a> {
 
     /// The length of the only item of a path.
     pub(crate) fn length(&self, path: &Path, places: &[u64], extent: Extent) -> Evaluated
-        ensures { result ≡ found_length self.now.lengths extent (found_of (items_of self.now path.now places.now)) }
+        ensures { result ≡ found_length self.now.nodes extent (found_of (items_of self.now path.now places.now)) }
     {
         let found = only_item(self.names, self.nodes, self.start, path, places);
-        found_length(self.lengths, extent, found)
+        found_length(self.nodes, extent, found)
     }
 
     /// The number of the innermost occurrence.

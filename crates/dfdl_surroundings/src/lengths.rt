@@ -1,29 +1,12 @@
 // How long elements are.
-ghost use Rattle.std.specs.Prelude.{◌≡◌, None, slice_index_or};
-ghost use Rattle.dfdl_surroundings.specs.Answers.{found_length, length_in, length_told, whole};
+ghost use Rattle.std.specs.Prelude.{◌≡◌, slice_get};
+ghost use Rattle.dfdl_surroundings.specs.Answers.{found_length, length_in, length_told, lengths_of, whole};
 
 use dfdl_expression_eval::Evaluated;
 use dfdl_expressions::Extent;
-use dfdl_paths::Found;
+use dfdl_paths::{Found, Node};
+use dfdl_region::Lengths;
 use dfdl_value::Value;
-
-/// How long an element is, in bits. Both are known from the end of its content on.
-#[derive(Debug, Clone, Copy, PartialEq, Eq)]
-pub struct Lengths {
-    pub content: u64,
-    pub value: u64,
-}
-
-impl Lengths {
-    fn of(self, extent: Extent) -> u64
-        ensures { result ≡ length_in extent self }
-    {
-        match extent {
-            Extent::Value => self.value,
-            Extent::Content => self.content,
-        }
-    }
-}
 
 /// A whole number, as the value that carries it.
 pub(crate) fn whole(number: u64) -> Evaluated
@@ -32,12 +15,21 @@ pub(crate) fn whole(number: u64) -> Evaluated
     Evaluated::Known(Value::Int(number as i128))
 }
 
-// The lengths of the element of a number, if they are known yet.
-fn lengths_at(lengths: &[Option<Lengths>], number: u32) -> Option<Lengths>
-    ensures { result ≡ slice_index_or lengths.now number None }
+fn length_in(extent: Extent, lengths: Lengths) -> u64
+    ensures { result ≡ length_in extent lengths }
 {
-    match lengths.get(number as usize) {
-        Some(known) => *known,
+    match extent {
+        Extent::Value => lengths.value,
+        Extent::Content => lengths.content,
+    }
+}
+
+// The lengths of the element of a number, if they are known yet.
+fn lengths_at(nodes: &[Node], number: u32) -> Option<Lengths>
+    ensures { result ≡ lengths_of (slice_get nodes.now number) }
+{
+    match nodes.get(number as usize) {
+        Some(node) => node.lengths,
         None => None,
     }
 }
@@ -47,17 +39,17 @@ fn length_told(extent: Extent, lengths: Option<Lengths>) -> Evaluated
 {
     match lengths {
         None => Evaluated::Fault(1),
-        Some(lengths) => whole(lengths.of(extent)),
+        Some(lengths) => whole(length_in(extent, lengths)),
     }
 }
 
 /// The length of what is found.
-pub(crate) fn found_length(lengths: &[Option<Lengths>], extent: Extent, found: Found) -> Evaluated
-    ensures { result ≡ found_length lengths.now extent found }
+pub(crate) fn found_length(nodes: &[Node], extent: Extent, found: Found) -> Evaluated
+    ensures { result ≡ found_length nodes.now extent found }
 {
     match found {
         Found::None => Evaluated::Fault(1),
-        Found::One(number) => length_told(extent, lengths_at(lengths, number)),
+        Found::One(number) => length_told(extent, lengths_at(nodes, number)),
         Found::Several => Evaluated::Fault(2),
     }
 }

@@ -15,7 +15,6 @@ mod variables;
 
 pub use document::Document;
 pub use evaluating::evaluate;
-pub use lengths::Lengths;
 pub use taking::{take, take_count, take_text, take_truth};
 
 #[cfg(test)]

@@ -60,7 +60,7 @@ fn a_variable_is_asked_for(rt: HostRuntime) -> Result<(), Fail> {
     assert!(rt; expression.is_some());
     if let Some(expression) = expression {
         let mut scratch = Scratch::open(alloc, 3)?;
-        let document = Document::new(&names, &[], &[], &[], &items, Start::Inside(0));
+        let document = Document::new(&names, &[], &[], &items, Start::Inside(0));
         let given = evaluate(alloc, &expression, &mut scratch, document, &mut variables)?;
         assert!(rt; given == Evaluated::Known(Value::Int(255)));
         // A byte ends at 127.

@@ -6,7 +6,7 @@ use Rattle.std.proofs.lemmas.List.{ext_get_or, get_or_past}
 use Rattle.std.proofs.lemmas.List.Folds.{list_any_none}
 use Rattle.std.proofs.lemmas.Option.{slice_get-get_or, slice_get_within}
 use Rattle.dfdl_terms.specs.declared.row.Row.{Row}
-use Rattle.dfdl_terms.specs.declared.row.Row.TheVariants.{Leaf, Elem, Group, Skip, Align, Initiator, Terminator, Separator, Scope, Boxed, PrefixedLeaf, PrefixedBox, MeasuredLeaf, MeasuredBox, Repeat, Counted, Optional, Choice, Dispatch, Statement, Concluded, Hidden, Separated}
+use Rattle.dfdl_terms.specs.declared.row.Row.TheVariants.{Leaf, Elem, Group, Skip, Align, Initiator, Terminator, Separator, Scope, Boxed, PrefixedLeaf, PrefixedBox, MeasuredLeaf, MeasuredBox, Repeat, Counted, Optional, Choice, Dispatch, Statement, Concluded, Hidden, Spanned, Instance, Separated}
 use Rattle.dfdl_terms.specs.declared.slots.Slot.{Slot}
 use Rattle.dfdl_terms.specs.Arrays.{children_in, is_item, is_item_in, is_item_of, is_marked, item_marks, item_marks_from, MarksItems}
 use Rattle.dfdl_terms.specs.Rows.{ChildrenBelow, Nests}
@@ -68,6 +68,8 @@ none_inside (Some (Dispatch question keys)) bound other below past = refl
 none_inside (Some (Statement statement)) bound other below past = refl
 none_inside (Some (Concluded behind body)) bound other below past = refl
 none_inside (Some (Hidden body)) bound other below past = refl
+none_inside (Some (Spanned body)) bound other below past = refl
+none_inside (Some (Instance statement body)) bound other below past = refl
 none_inside (Some (Separated policy position initiated slots)) bound other below past = refl
 
 -- a row repeats rows below it
@@ -99,6 +101,8 @@ none_repeated rows nests bound other (Dispatch question keys) within past below 
 none_repeated rows nests bound other (Statement statement) within past below = refl
 none_repeated rows nests bound other (Concluded behind body) within past below = refl
 none_repeated rows nests bound other (Hidden body) within past below = refl
+none_repeated rows nests bound other (Spanned body) within past below = refl
+none_repeated rows nests bound other (Instance statement body) within past below = refl
 
 -- past the rows there is no item
 none_beyond : (rows : List Row) → Nests rows → (other : ℕ) → length rows ≤ other → is_item rows other ≡ false

@@ -6,6 +6,8 @@ use Rattle.dfdl_terms.specs.declared.framing.Framing.{Framing}
 abbrev pub no_fill : Framing
 no_fill = record {
   before = record { first = 0; count = 0 };
+  openings = record { first = 0; count = 0 };
+  settings = record { first = 0; count = 0 };
   leading_skip = 0;
   alignment = 1;
   initiator = None;

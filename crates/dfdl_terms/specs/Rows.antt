@@ -15,7 +15,7 @@ use Rattle.dfdl_terms.specs.declared.text.TextSize.TheVariants.{Bits, Characters
 use Rattle.dfdl_terms.specs.declared.row.Primitive.{Primitive}
 use Rattle.dfdl_terms.specs.declared.row.Primitive.TheVariants.{Integer, Packed, Truth, Octets, Text, NilOctets, Default, NilValues, Pattern}
 use Rattle.dfdl_terms.specs.declared.row.Row.{Row}
-use Rattle.dfdl_terms.specs.declared.row.Row.TheVariants.{Leaf, Elem, Group, Skip, Align, Initiator, Terminator, Separator, Scope, Boxed, PrefixedLeaf, PrefixedBox, MeasuredLeaf, MeasuredBox, Repeat, Counted, Optional, Choice, Dispatch, Statement, Concluded, Hidden, Separated}
+use Rattle.dfdl_terms.specs.declared.row.Row.TheVariants.{Leaf, Elem, Group, Skip, Align, Initiator, Terminator, Separator, Scope, Boxed, PrefixedLeaf, PrefixedBox, MeasuredLeaf, MeasuredBox, Repeat, Counted, Optional, Choice, Dispatch, Statement, Concluded, Hidden, Spanned, Instance, Separated}
 use Rattle.dfdl_terms.specs.declared.delimiters.Delimiters.{Delimiters}
 use Rattle.dfdl_terms.specs.declared.statement.Statements.{Statements}
 use Rattle.dfdl_terms.specs.declared.statement.Statement.{Statement as AnyStatement}
@@ -80,6 +80,8 @@ ChildrenBelow bound (Dispatch question keys) = All (λ key. key.body < bound) ke
 ChildrenBelow bound (Statement statement) = Unit {0}
 ChildrenBelow bound (Concluded behind body) = body < bound
 ChildrenBelow bound (Hidden body) = body < bound
+ChildrenBelow bound (Spanned body) = body < bound
+ChildrenBelow bound (Instance statement body) = body < bound
 ChildrenBelow bound (Separated policy position initiated slots) = All (λ slot. slot.body < bound) slots
 
 -- each child is below its row, for the first so many rows
@@ -104,7 +106,7 @@ IsWithin count (Some number) = number < count
 
 -- the primitives of the representations that are tried are some of so many
 abbrev pub AreWithin : ℕ → Representations → Type 0
-AreWithin primitives tried = IsWithin primitives tried.nil × IsWithin primitives tried.empty
+AreWithin primitives tried = IsWithin primitives tried.nil × IsWithin primitives tried.empty × IsWithin primitives tried.where_tried.empty
 
 -- these statements are some of so many
 abbrev pub AreStatements : ℕ → Statements → Type 0
@@ -134,7 +136,9 @@ NamesWithin named (Dispatch question keys) = question < length named.statements
 NamesWithin named (Statement statement) = statement < length named.statements
 NamesWithin named (Concluded behind body) = AreStatements (length named.statements) behind
 NamesWithin named (Hidden body) = Unit {0}
-NamesWithin named (Separated policy position initiated slots) = Unit {0}
+NamesWithin named (Spanned body) = Unit {0}
+NamesWithin named (Instance statement body) = statement < length named.statements
+NamesWithin named (Separated policy position initiated slots) = All (λ slot. IsWithin (length named.statements) slot.question) slots
 
 -- the greatest constant length, in bits (profile)
 abbrev pub most_length : ℕ
@@ -210,6 +214,8 @@ IsElementRow (Some (Dispatch question keys)) = ⊥
 IsElementRow (Some (Statement statement)) = ⊥
 IsElementRow (Some (Concluded behind body)) = ⊥
 IsElementRow (Some (Hidden body)) = ⊥
+IsElementRow (Some (Spanned body)) = ⊥
+IsElementRow (Some (Instance statement body)) = ⊥
 IsElementRow (Some (Separated policy position initiated slots)) = ⊥
 IsElementRow None = ⊥
 
@@ -249,6 +255,8 @@ IsPlainRow (Dispatch question keys) = ⊥
 IsPlainRow (Statement statement) = ⊥
 IsPlainRow (Concluded behind body) = ⊥
 IsPlainRow (Hidden body) = ⊥
+IsPlainRow (Spanned body) = Unit {0}
+IsPlainRow (Instance statement body) = ⊥
 IsPlainRow (Separated policy position initiated slots) = ⊥
 
 -- each row is of the content alone

@@ -8,8 +8,12 @@ use crate::statement::Statements;
 /// behind all ('Framing', 'DFDL Schema Component Model').
 #[derive(Debug, Clone, Copy, PartialEq, Eq)]
 pub struct Framing {
-    /// Tests of patterns, and what sets variables where a sequence or a choice begins.
+    /// Tests of patterns.
     pub before: Statements,
+    /// What opens instances of variables, which stay open up to the end of a sequence or a choice.
+    pub openings: Statements,
+    /// What sets variables where a sequence or a choice begins, inside of these instances.
+    pub settings: Statements,
     /// How many bits are passed over before the alignment.
     pub leading_skip: u32,
     /// The initiator, or the content without one, begins at a multiple of so many bits; with 1 it begins anywhere.
@@ -31,6 +35,8 @@ impl Framing {
     {
         Framing {
             before: Statements { first: 0, count: 0 },
+            openings: Statements { first: 0, count: 0 },
+            settings: Statements { first: 0, count: 0 },
             leading_skip: 0,
             alignment: 1,
             initiator: None,

@@ -29,11 +29,11 @@ pub use keys::{Key, KeyList};
 pub use names::NameNumbers;
 pub use occurs::Occurs;
 pub use prefix::{LengthUnit, Measure, Prefix};
-pub use representations::Representations;
+pub use representations::{Representations, WhereTried};
 pub use row::{Primitive, Row, RowId, RowList, Tables};
 pub use slots::{Slot, SlotList};
 pub use statement::{
-    Calculation, ExpressionTest, PatternTest, Question, Setting, Statement, Statements,
+    Calculation, ExpressionTest, Opening, PatternTest, Question, Setting, Statement, Statements,
 };
 pub use terms::{TermFault, Terms};
 pub use text::{

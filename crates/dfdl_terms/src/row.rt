@@ -225,6 +225,17 @@ pub enum Row {
     Hidden {
         body: RowId,
     },
+    /// The content of a complex element that has no box: how long it is, is kept with the element ('DFDL Expression Language', on
+    /// lengths).
+    Spanned {
+        body: RowId,
+    },
+    /// A row inside of which an instance of a variable is open, which the statement of this number in the tables opens ('DFDL
+    /// Expression Language', on variables).
+    Instance {
+        statement: u32,
+        body: RowId,
+    },
     /// The children of a sequence with separators, some of whose occurrences are tried ('Sequence Groups').
     Separated {
         policy: SeparatorSuppressionPolicy,

@@ -3,7 +3,7 @@ use crate::row::RowId;
 use std::marker::Model;
 
 /// One child of a sequence with separators: so many of its occurrences are required, and so many further ones are tried. Each is a
-/// slot ('Sequence Groups').
+/// slot, unless it is a child that has none ('Sequence Groups').
 #[derive(Debug, Clone, Copy, PartialEq, Eq)]
 pub struct Slot {
     pub body: RowId,
@@ -13,6 +13,10 @@ pub struct Slot {
     pub is_parsed: bool,
     /// The row is that of an item of an array.
     pub is_item: bool,
+    /// How many occurrences are required is what the question of this number in the tables tells, in place of `least`.
+    pub question: Option<u32>,
+    /// The row has no slot: it is there once, and no separator belongs to it.
+    pub is_slotless: bool,
 }
 
 /// Slots in the order of the schema. A contract sees them as their list.

@@ -34,6 +34,17 @@ pub struct Setting {
     pub expression: Expression,
 }
 
+/// An instance of a variable is opened, which the variable stands for as long as it is open ('DFDL Expression Language', on variables).
+#[derive(Debug, Drop)]
+pub struct Opening {
+    /// The number of the variable in the tables.
+    pub variable: u32,
+    /// Its type.
+    pub kind: Simple,
+    /// What the instance begins with; without it, with what the variable does.
+    pub start: Option<Expression>,
+}
+
 /// The value of an element that has no representation ('Calculated Values').
 #[derive(Debug, Drop)]
 pub struct Calculation {
@@ -56,6 +67,7 @@ pub enum Statement {
     Setting(Setting),
     Calculation(Calculation),
     Question(Question),
+    Opening(Opening),
 }
 
 /// Statements of the tables that stand there one after the other.

@@ -87,6 +87,8 @@ fn has_children_below(row: &Row, bound: RowId) -> bool
         Row::Statement { .. } => true,
         Row::Concluded { body, .. } => body.number() < bound.number(),
         Row::Hidden { body } => body.number() < bound.number(),
+        Row::Spanned { body } => body.number() < bound.number(),
+        Row::Instance { body, .. } => body.number() < bound.number(),
         Row::Separated { slots, .. } => slots_are_below(slots.as_slice(), bound),
     }
 }
@@ -101,6 +103,7 @@ fn said(statement: &Statement) -> Option<&str>
         Statement::Setting(_) => None,
         Statement::Calculation(_) => None,
         Statement::Question(_) => None,
+        Statement::Opening(_) => None,
     }
 }
 

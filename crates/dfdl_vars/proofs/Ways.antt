@@ -1,6 +1,7 @@
 -- Ways back, for proofs that go from state to state: each call keeps them, and behind each there is one to what is kept then.
-use Rattle.std.specs.Prelude.{◌≡◌, ℕ, zero, suc, ◌-◌, ◌+◌, ◌<◌, ◌≤◌, Bool, true, false, Option, Some, None, List, [], ◌∷◌, ◌++◌, length, if◌then◌else◌, refl}
+use Rattle.std.specs.Prelude.{◌≡◌, ℕ, zero, suc, ◌-◌, ◌+◌, ◌<◌, ◌≤◌, Bool, true, false, Option, Some, None, List, [], ◌∷◌, ◌++◌, length, take, if◌then◌else◌, refl}
 use Rattle.std.proofs.Common.{arith}
+use Rattle.std.proofs.lemmas.List.{length-append}
 use Rattle.dfdl_value.specs.declared.value.Value.{Value}
 use Rattle.dfdl_vars.specs.declared.instances.Change.TheVariants.{Read}
 use Rattle.dfdl_vars.specs.declared.instances.Instance.{Instance}
@@ -8,7 +9,7 @@ use Rattle.dfdl_vars.specs.declared.instances.VarFault.TheVariants.{SetTwice, Se
 use Rattle.dfdl_vars.specs.declared.instances.VarMark.{VarMark}
 use Rattle.dfdl_vars.specs.declared.values.VarDef.{VarDef}
 use Rattle.dfdl_vars.specs.Instances.{at_place, set_to, read_as, has, is_set, is_read}
-use Rattle.dfdl_vars.specs.Kept.{Kept, IsSound, with_setting, with_read, entered, left, place_now, innermost, is_of, fault_now, opened}
+use Rattle.dfdl_vars.specs.Kept.{Kept, IsSound, with_setting, with_read, entered, left, place_now, innermost, is_of, fault_now, fresh, opened}
 use Rattle.dfdl_vars.specs.Marks.{LeadsBack, gone_back, mark_of}
 use Rattle.dfdl_vars.proofs.Backs as backs
 use Rattle.dfdl_vars.proofs.Gone as gone
@@ -93,6 +94,17 @@ sound_read now var way less = by (has is_read now.instances (place_now now var))
         backs.length-at (read_as true) (place_now now var) now.instances in
         backs.here after (sound.sound_read now.instances now.changes (place_now now var) way.sound e (place_within now var way less))
         (omega (arith, many, way.whole))
+
+pub sound_entered : (now : Kept) (var : ℕ) (start : Option Value) → LeadsBack now now → LeadsBack (entered now var start) (entered now var start)
+sound_entered now var start way =
+    let many : length (now.instances ++ fresh var start ∷ []) ≡ length now.instances + 1 = length-append now.instances (fresh var start ∷ []) in
+    backs.here (entered now var start) (sound.sound_entered now.instances now.changes var start way.sound) (omega (arith, many, way.whole))
+
+pub sound_left : (now : Kept) → LeadsBack now now → now.globals < length now.instances → LeadsBack (left now) (left now)
+sound_left now way outer =
+    let last : ℕ = length now.instances - 1 in
+    let many : length (take last now.instances) ≡ last = backs.length_take_le last now.instances (omega arith) in
+    backs.here (left now) (sound.sound_left now.instances now.changes last way.sound (omega (arith, outer))) (omega (arith, many, outer))
 
 pub sound_opened : (definitions : List VarDef) (given : List (ℕ × Value)) (deep : ℕ) → LeadsBack (opened definitions given deep) (opened definitions given deep)
 sound_opened definitions given deep =

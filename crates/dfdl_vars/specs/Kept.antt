@@ -1,6 +1,6 @@
 -- What is kept of the variables of a run. 'DFDL Expression Language', on variables: an instance is set at most once, and never after
 -- it was read.
-use Rattle.std.specs.Prelude.{◌≡◌, ℕ, zero, suc, ◌==◌, ◌+◌, ◌-◌, Bool, true, false, Option, Some, None, Result, Ok, Err, List, [], ◌∷◌, ◌++◌, length, take, if◌then◌else◌}
+use Rattle.std.specs.Prelude.{◌≡◌, ℕ, zero, suc, ◌==◌, ◌+◌, ◌-◌, Bool, true, false, Option, Some, None, Result, Ok, Err, List, [], ◌∷◌, ◌++◌, length, nat_lt, take, if◌then◌else◌}
 use Rattle.std.specs.List.{slice_get}
 use Rattle.dfdl_value.specs.declared.value.Value.{Value}
 use Rattle.dfdl_vars.specs.declared.instances.Change.{Change}
@@ -61,6 +61,10 @@ left kept = record kept {
   instances = take (length kept.instances - 1) kept.instances;
   changes = elsewhere (length kept.instances - 1) kept.changes;
 }
+
+-- the same where an instance may not be entered; there is none to leave then
+abbrev pub without_innermost : Kept → Kept
+without_innermost kept = if nat_lt kept.globals (length kept.instances) then left kept else kept
 
 -- how often a list has a change
 abbrev pub times : Change → List Change → ℕ

@@ -26,6 +26,9 @@ pub fn ways_back()
         → LeadsBack (with_setting now (place_now now var) value) (with_setting now (place_now now var) value) }
     ensures sound_read { (now : Kept) (var : ℕ) → LeadsBack now now → var < now.globals
         → LeadsBack (with_read now (place_now now var)) (with_read now (place_now now var)) }
+    ensures sound_entered { (now : Kept) (var : ℕ) (start : Option Value) → LeadsBack now now
+        → LeadsBack (entered now var start) (entered now var start) }
+    ensures sound_left { (now : Kept) → LeadsBack now now → now.globals < length now.instances → LeadsBack (left now) (left now) }
     ensures sound_gone { (mark : VarMark) (now : Kept) → LeadsBack now now → LeadsBack (gone_back mark now) (gone_back mark now) }
 {}
 

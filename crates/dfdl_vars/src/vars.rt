@@ -1,6 +1,6 @@
 // The variables of a run.
 ghost use Rattle.std.specs.Prelude.{◌≡◌, [], ◌<◌, ◌+◌, ◌-◌, ◌↔◌, IfOk, IsErr, OnOk, OnErr, length, option_copied};
-ghost use Rattle.dfdl_vars.specs.Kept.{Kept, opened, with_setting, with_read, entered, left, place_now, value_of, fault_now, fault_in};
+ghost use Rattle.dfdl_vars.specs.Kept.{Kept, opened, with_setting, with_read, entered, left, without_innermost, place_now, value_of, fault_now, fault_in};
 ghost use Rattle.dfdl_vars.specs.Marks.{mark_of, LeadsBack, gone_back};
 
 use crate::instances::{Change, Instance, VarFault, VarMark};
@@ -175,6 +175,16 @@ impl Vars {
         let last = self.instances.len() - 1;
         forget(&mut self.changes, last);
         self.instances.truncate(last);
+    }
+
+    /// Closes the innermost instance that was entered, if there is one.
+    pub fn leave_innermost(&mut self)
+        ensures left { self.new ≡ without_innermost self.old }
+        ensures globals { self.new.globals ≡ self.old.globals }
+    {
+        if self.globals < self.instances.len() {
+            self.leave();
+        }
     }
 
     /// A place to go back to.

@@ -8,6 +8,8 @@ use Rattle.dfdl_components.specs.Sites.{IsSite}
 use Rattle.dfdl_components.specs.declared.site.Site.{Site}
 use Rattle.dfdl_terms.specs.declared.statement.PatternTest.{PatternTest}
 use Rattle.dfdl_checks.specs.declared.expression_tests.CheckForm.{CheckForm}
+use Rattle.dfdl_chains.specs.Settings.{IsSetterOf}
+use Rattle.dfdl_chains.specs.declared.settings.Setter.{Setter}
 use Rattle.dfdl_breaches.specs.Judging.{IsCheckOf}
 use Rattle.dfdl_breaches.specs.Elements.{place_of}
 use Rattle.dfdl_written.specs.Noting.{IsNotedWithin, StatesWithin, noted_check, noted_each, noted_expressions, noted_from, noted_parts, noted_setting, noted_test}
@@ -25,15 +27,15 @@ every P f holds [] = All-nil P
 every {X} {Y} P f holds (x ∷ xs) = All-cons P (f x) (map f xs) (holds x) (every P f holds xs)
 
 -- their texts stand at elements of the documents
-pub parts_within : (documents : List SchemaDocument) (place : Place) (own : Site) (tests : List PatternTest) (settings : List Site) (checks : List CheckForm)
-    → IsSite documents own → All (IsSite documents) settings → All (IsCheckOf documents) checks
+pub parts_within : (documents : List SchemaDocument) (place : Place) (own : Site) (tests : List PatternTest) (settings : List Setter) (checks : List CheckForm)
+    → IsSite documents own → All (IsSetterOf documents) settings → All (IsCheckOf documents) checks
     → All (IsNotedWithin documents) (noted_parts documents place own tests settings checks)
 parts_within documents place own tests settings checks within set checked =
     All-append (IsNotedWithin documents) (map (noted_test place own) tests)
     (map (noted_setting documents place) settings ++ map (noted_check place) checks)
     (every (IsNotedWithin documents) (noted_test place own) (λ test. within) tests)
     (All-append (IsNotedWithin documents) (map (noted_setting documents place) settings) (map (noted_check place) checks)
-    (each (IsSite documents) (IsNotedWithin documents) (noted_setting documents place) (λ site there. there) settings set)
+    (each (IsSetterOf documents) (IsNotedWithin documents) (noted_setting documents place) (λ setter there. there) settings set)
     (each (IsCheckOf documents) (IsNotedWithin documents) (noted_check place) (λ check there. there) checks checked))
 
 -- three lists one after the other
@@ -43,6 +45,14 @@ three_pushed old first second third a b c first_is second_is third_is =
     ∙ (ap (λ (xs : List Noted). xs ++ c) (second_is ∙ ap (λ (xs : List Noted). xs ++ b) first_is)
     ∙ (append_assoc (old ++ a) b c ∙ append_assoc old a (b ++ c)))
 
+-- two lists one after the other
+pub two_pushed : (old first second a b : List Noted) → first ≡ old ++ a → second ≡ first ++ b → second ≡ old ++ (a ++ b)
+two_pushed old first second a b first_is second_is = second_is ∙ (ap (λ (xs : List Noted). xs ++ b) first_is ∙ append_assoc old a b)
+
+-- each of two lists one after the other
+pub two_within : {X : Type 0} (P : X → Type 0) (a b : List X) → All P a → All P b → All P (a ++ b)
+two_within P a b first second = All-append P a b first second
+
 -- each of three lists one after the other
 pub three_within : {X : Type 0} (P : X → Type 0) (a b c : List X) → All P a → All P b → All P c → All P (a ++ (b ++ c))
 three_within P a b c first second third = All-append P a (b ++ c) first (All-append P b c second third)
@@ -50,22 +60,22 @@ three_within P a b c first second third = All-append P a (b ++ c) first (All-app
 -- the expressions that are properties behind what stands before them
 pub expressions_behind : (documents : List SchemaDocument) (own : Site) (stated : Stated) (old parts new : List Noted)
     → parts ≡ old ++ noted_parts documents (place_of documents own) own stated.tests stated.settings stated.checks
-    → new ≡ parts ++ noted_expressions documents (place_of documents own) own stated.calculation stated.measure stated.count → new ≡ old ++ noted_from documents own stated
+    → new ≡ parts ++ noted_expressions documents (place_of documents own) own stated.calculation stated.measure stated.count stated.key → new ≡ old ++ noted_from documents own stated
 expressions_behind documents own stated old parts new parts_is new_is =
     new_is
-    ∙ (ap (λ (xs : List Noted). xs ++ noted_expressions documents (place_of documents own) own stated.calculation stated.measure stated.count) parts_is
+    ∙ (ap (λ (xs : List Noted). xs ++ noted_expressions documents (place_of documents own) own stated.calculation stated.measure stated.count stated.key) parts_is
     ∙ append_assoc old (noted_parts documents (place_of documents own) own stated.tests stated.settings stated.checks)
-    (noted_expressions documents (place_of documents own) own stated.calculation stated.measure stated.count))
+    (noted_expressions documents (place_of documents own) own stated.calculation stated.measure stated.count stated.key))
 
 -- those so far with those of one component more
 pub more_within : (documents : List SchemaDocument) (place : Place) (own : Site) (stated : Stated) (old parts new : List Noted)
     → parts ≡ old ++ noted_parts documents place own stated.tests stated.settings stated.checks
-    → new ≡ parts ++ noted_expressions documents place own stated.calculation stated.measure stated.count
+    → new ≡ parts ++ noted_expressions documents place own stated.calculation stated.measure stated.count stated.key
     → IsSite documents own → StatesWithin documents stated → All (IsNotedWithin documents) old
-    → All (IsNotedWithin documents) (noted_expressions documents place own stated.calculation stated.measure stated.count) → All (IsNotedWithin documents) new
+    → All (IsNotedWithin documents) (noted_expressions documents place own stated.calculation stated.measure stated.count stated.key) → All (IsNotedWithin documents) new
 more_within documents place own stated old parts new parts_is new_is within stated_within all expressed =
     subst (λ (xs : List Noted). All (IsNotedWithin documents) xs) (sym new_is)
-    (All-append (IsNotedWithin documents) parts (noted_expressions documents place own stated.calculation stated.measure stated.count)
+    (All-append (IsNotedWithin documents) parts (noted_expressions documents place own stated.calculation stated.measure stated.count stated.key)
     (subst (λ (xs : List Noted). All (IsNotedWithin documents) xs) (sym parts_is)
     (All-append (IsNotedWithin documents) old (noted_parts documents place own stated.tests stated.settings stated.checks) all
     (parts_within documents place own stated.tests stated.settings stated.checks within stated_within.settings stated_within.checks))) expressed)

@@ -1,8 +1,9 @@
--- The statements of the documents as they are written: of each component the tests of patterns, the elements that set variables, the
--- tests of expressions, the calculation of its value, and the questions how long its content is and how often it occurs ('DFDL Schema
--- Component Model', on asserts and discriminators; 'Syntax of DFDL Annotation Elements', on setVariable; 'Calculated Values'; 'Lengths', on
--- lengthKind explicit; 'Arrays and Optional Elements', on occursCountKind expression).
-use Rattle.std.specs.Prelude.{◌≡◌, ℕ, List, [], ◌∷◌, ◌++◌, All, map, slice_get, Option, None, Some, option_map, unwrap_or, codes}
+-- The statements of the documents as they are written: of each component the tests of patterns, what opens instances of variables, what sets
+-- variables, the tests of expressions, the calculation of its value, and the questions how long its content is, how often it occurs and which
+-- branch is taken ('DFDL Schema Component Model', on asserts and discriminators; 'Syntax of DFDL Annotation Elements', on newVariableInstance
+-- and setVariable; 'Calculated Values'; 'Lengths', on lengthKind explicit; 'Arrays and Optional Elements', on occursCountKind expression;
+-- 'Choices', on choiceDispatchKey).
+use Rattle.std.specs.Prelude.{◌≡◌, ℕ, List, [], ◌∷◌, ◌++◌, Bool, true, false, All, map, slice_get, Option, None, Some, option_map, unwrap_or, codes}
 use Rattle.std.specs.BTreeMap.{BTreeMap}
 use Rattle.std.specs.Prelude.{String}
 use Rattle.std.specs.Option.{option_and_then}
@@ -14,6 +15,8 @@ use Rattle.dfdl_documents.specs.Documents.{SchemaDocument}
 use Rattle.dfdl_components.specs.Globals.{site}
 use Rattle.dfdl_components.specs.Sites.{IsSite}
 use Rattle.dfdl_components.specs.declared.site.Site.{Site}
+use Rattle.dfdl_chains.specs.Settings.{IsSetterOf}
+use Rattle.dfdl_chains.specs.declared.settings.Setter.{Setter}
 use Rattle.dfdl_terms.specs.declared.statement.PatternTest.{PatternTest}
 use Rattle.dfdl_checks.specs.declared.expression_tests.CheckForm.{CheckForm}
 use Rattle.dfdl_checks.specs.declared.measures.MeasureForm.{MeasureForm}
@@ -64,7 +67,7 @@ target_of variables number = option_map (target_with number) (option_and_then so
 abbrev pub target_named : List SchemaDocument → Site → List ℕ → Option Target
 target_named documents own name = option_and_then (target_of (variables_of documents)) (variable_named documents own name)
 
--- the variable that a setVariable sets: that which its attribute `ref` names
+-- the variable that a setVariable sets, or of which a newVariableInstance opens one: that which its attribute `ref` names
 abbrev pub target_at : List SchemaDocument → Site → Option Target
 target_at documents own = option_and_then (target_named documents own) (attribute_of documents own (codes "ref"))
 
@@ -72,9 +75,18 @@ target_at documents own = option_and_then (target_named documents own) (attribut
 abbrev pub value_at : List SchemaDocument → Site → List ℕ
 value_at documents own = text_or_empty (given_by (codes "value") documents own)
 
--- a setVariable
-abbrev pub noted_setting : List SchemaDocument → Place → Site → Noted
-noted_setting documents place own = noted_with place own (source.Setting (target_at documents own) (value_at documents own))
+-- what an instance begins with that a newVariableInstance opens: what its attribute `defaultValue` gives, else the element's text without the white
+-- space around it, if there is one
+abbrev pub start_at : List SchemaDocument → Site → Option (List ℕ)
+start_at documents own = given_by (codes "defaultValue") documents own
+
+-- a newVariableInstance, or a setVariable
+abbrev pub setter_source : List SchemaDocument → Bool → Site → Source
+setter_source documents true own = source.Opening (target_at documents own) (start_at documents own)
+setter_source documents false own = source.Setting (target_at documents own) (value_at documents own)
+
+abbrev pub noted_setting : List SchemaDocument → Place → Setter → Noted
+noted_setting documents place own = noted_with place own.site (setter_source documents own.opens own.site)
 
 -- the type of a value that is calculated; there are such values of elements of simple types alone
 abbrev pub calculated_type : List SchemaDocument → Site → Simple
@@ -109,16 +121,21 @@ noted_if noted (Some text) = noted text ∷ []
 abbrev pub length_text : MeasureForm → List ℕ
 length_text measure = measure.text
 
--- the expressions that are properties of a component that begins at this place: the calculation of its value, and the questions how long
--- its content is and how often it occurs
-abbrev pub noted_expressions : List SchemaDocument → Place → Site → Option (List ℕ) → Option MeasureForm → Option (List ℕ) → List Noted
-noted_expressions documents place own calculation measure count =
-    noted_if (noted_calculation documents place own) calculation
-    ++ (noted_if (noted_question documents place own asked.Length) (option_map length_text measure)
-    ++ noted_if (noted_question documents place own asked.Count) count)
+-- the questions that the rows of a component that begins at this place ask: how long its content is, how often it occurs, and which branch
+-- is taken
+abbrev pub noted_questions : List SchemaDocument → Place → Site → Option MeasureForm → Option (List ℕ) → Option (List ℕ) → List Noted
+noted_questions documents place own measure count key =
+    noted_if (noted_question documents place own asked.Length) (option_map length_text measure)
+    ++ (noted_if (noted_question documents place own asked.Count) count
+    ++ noted_if (noted_question documents place own asked.Key) key)
+
+-- the expressions that are properties of such a component: the calculation of its value, and the questions
+abbrev pub noted_expressions : List SchemaDocument → Place → Site → Option (List ℕ) → Option MeasureForm → Option (List ℕ) → Option (List ℕ) → List Noted
+noted_expressions documents place own calculation measure count key =
+    noted_if (noted_calculation documents place own) calculation ++ noted_questions documents place own measure count key
 
 -- the statements before these, of a component that begins at this place
-abbrev pub noted_parts : List SchemaDocument → Place → Site → List PatternTest → List Site → List CheckForm → List Noted
+abbrev pub noted_parts : List SchemaDocument → Place → Site → List PatternTest → List Setter → List CheckForm → List Noted
 noted_parts documents place own tests settings checks =
     map (noted_test place own) tests ++ (map (noted_setting documents place) settings ++ map (noted_check place) checks)
 
@@ -131,13 +148,14 @@ stated_by judgement = record {
   calculation = judgement.calculation;
   measure = judgement.measure;
   count = judgement.count;
+  key = judgement.key;
 }
 
 -- the statements of a component that states this
 abbrev pub noted_from : List SchemaDocument → Site → Stated → List Noted
 noted_from documents own stated =
     noted_parts documents (place_of documents own) own stated.tests stated.settings stated.checks
-    ++ noted_expressions documents (place_of documents own) own stated.calculation stated.measure stated.count
+    ++ noted_expressions documents (place_of documents own) own stated.calculation stated.measure stated.count stated.key
 
 -- the statements of a component of which this is told
 abbrev pub noted_by : List SchemaDocument → Site → Judgement → List Noted
@@ -151,7 +169,7 @@ noted_each documents (own ∷ sites) [] = []
 
 -- what a component states is written at elements of the documents
 pub record StatesWithin (documents : List SchemaDocument) (stated : Stated) : Type 0 where
-  pub settings : All (IsSite documents) stated.settings
+  pub settings : All (IsSetterOf documents) stated.settings
   pub checks : All (IsCheckOf documents) stated.checks
 
 -- the text of a statement stands at an element of the documents

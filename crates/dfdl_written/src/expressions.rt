@@ -159,26 +159,25 @@ fn length_text(measure: Option<MeasureForm>) -> Option<TextValue>
     }
 }
 
-/// Adds the expressions that are properties of a component that begins at this place.
+// Adds the questions that the rows of a component that begins at this place ask.
 #[tactic(auto, using(crate::proofs::Told::three_pushed, crate::proofs::Told::three_within))]
-pub(crate) fn push_expressions(
+fn push_asked(
     alloc: Global,
     schema: &Schema,
     numbers: &Numbers,
     place: Place,
     site: Site,
-    calculation: Option<TextValue>,
     measure: Option<MeasureForm>,
     count: Option<TextValue>,
+    key: Option<TextValue>,
     noted: &mut Vec<Noted>,
 ) -> Result<(), AllocError>
     requires site { IsSite schema.now site }
     requires numbers { AreNumbers schema.now numbers.now }
-    ensures noted { OnOk result (noted.new.items ≡ noted.old.items ++ spec.noted_expressions schema.now place site calculation measure count) }
-    ensures within { OnOk result (All (spec.IsNotedWithin schema.now) (spec.noted_expressions schema.now place site calculation measure count)) }
+    ensures noted { OnOk result (noted.new.items ≡ noted.old.items ++ spec.noted_questions schema.now place site measure count key) }
+    ensures within { OnOk result (All (spec.IsNotedWithin schema.now) (spec.noted_questions schema.now place site measure count key)) }
 {
     let length = length_text(measure);
-    push_calculations(alloc, schema, numbers, place, site, calculation, noted)?;
     push_questions(
         alloc,
         schema,
@@ -198,6 +197,33 @@ pub(crate) fn push_expressions(
         Asked::Count,
         count,
         noted,
+    )?;
+    push_questions(alloc, schema, numbers, place, site, Asked::Key, key, noted)?;
+    Ok(())
+}
+
+/// Adds the expressions that are properties of a component that begins at this place.
+#[tactic(auto, using(crate::proofs::Told::two_pushed, crate::proofs::Told::two_within))]
+pub(crate) fn push_expressions(
+    alloc: Global,
+    schema: &Schema,
+    numbers: &Numbers,
+    place: Place,
+    site: Site,
+    calculation: Option<TextValue>,
+    measure: Option<MeasureForm>,
+    count: Option<TextValue>,
+    key: Option<TextValue>,
+    noted: &mut Vec<Noted>,
+) -> Result<(), AllocError>
+    requires site { IsSite schema.now site }
+    requires numbers { AreNumbers schema.now numbers.now }
+    ensures noted { OnOk result (noted.new.items ≡ noted.old.items ++ spec.noted_expressions schema.now place site calculation measure count key) }
+    ensures within { OnOk result (All (spec.IsNotedWithin schema.now) (spec.noted_expressions schema.now place site calculation measure count key)) }
+{
+    push_calculations(alloc, schema, numbers, place, site, calculation, noted)?;
+    push_asked(
+        alloc, schema, numbers, place, site, measure, count, key, noted,
     )?;
     Ok(())
 }

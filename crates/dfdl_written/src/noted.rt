@@ -15,8 +15,9 @@ pub struct Noted {
     pub site: Site,
 }
 
-/// What a component states: its tests of patterns, what sets variables, its tests of expressions, and the expressions by which its value
-/// is calculated, and how long its content is and how often it occurs are told, if they are.
+/// What a component states: its tests of patterns, what opens instances of variables and what sets them, its tests of expressions, and the
+/// expressions by which its value is calculated, and how long its content is, how often it occurs and which branch is taken are told, if they
+/// are.
 #[derive(Debug, Drop)]
 pub struct Stated {
     pub tests: TestList,
@@ -25,4 +26,5 @@ pub struct Stated {
     pub calculation: Option<TextValue>,
     pub measure: Option<MeasureForm>,
     pub count: Option<TextValue>,
+    pub key: Option<TextValue>,
 }

@@ -1,6 +1,7 @@
 // The statements of components as documents write them.
 ghost use Rattle.std.specs.Prelude.{◌≡◌, ◌++◌, map, length, All, IfOk, OnOk, option_map};
 ghost use Rattle.dfdl_components.specs.Sites.{IsSite};
+ghost use Rattle.dfdl_chains.specs.Settings.{IsSetterOf};
 ghost use Rattle.dfdl_chains.specs.Shown.{AreNumbers};
 ghost use Rattle.dfdl_variables.specs.Variables.{variables_of};
 ghost use Rattle.dfdl_written.specs.Noting as spec;
@@ -10,7 +11,7 @@ use crate::noted::{Noted, Stated};
 use crate::reading::{attribute, given_by, text_or_empty};
 use crate::variables::sound_type;
 use dfdl_breaches::{CheckList, SettingList, TestList};
-use dfdl_chains::Numbers;
+use dfdl_chains::{Numbers, Setter};
 use dfdl_checks::CheckForm;
 use dfdl_components::{Schema, Site};
 use dfdl_forms::Simple;
@@ -78,6 +79,20 @@ fn target_at(
     }
 }
 
+// What an instance begins with that a newVariableInstance opens, if with something of its own.
+fn start_at(alloc: Global, schema: &Schema, site: Site) -> Result<Option<TextValue>, AllocError>
+    requires { IsSite schema.now site }
+    ensures { IfOk result (λ text. text ≡ spec.start_at schema.now site) }
+{
+    match given_by(schema, site, "defaultValue") {
+        Some(text) => {
+            let text = TextValue::from_str(alloc, text)?;
+            Ok(Some(text))
+        }
+        None => Ok(None),
+    }
+}
+
 // What a setVariable sets its variable to.
 fn value_at(alloc: Global, schema: &Schema, site: Site) -> Result<TextValue, AllocError>
     requires { IsSite schema.now site }
@@ -88,24 +103,47 @@ fn value_at(alloc: Global, schema: &Schema, site: Site) -> Result<TextValue, All
     Ok(text)
 }
 
-// A setVariable of a component that begins at this place.
+// A newVariableInstance, or a setVariable.
+fn setter_source(
+    alloc: Global,
+    schema: &Schema,
+    numbers: &Numbers,
+    variables: &[Declared],
+    opens: bool,
+    site: Site,
+) -> Result<Source, AllocError>
+    requires site { IsSite schema.now site }
+    requires numbers { AreNumbers schema.now numbers.now }
+    requires variables { variables.now ≡ variables_of schema.now }
+    ensures { IfOk result (λ source. source ≡ spec.setter_source schema.now opens site) }
+{
+    let variable = target_at(schema, numbers, variables, site);
+    if opens {
+        let text = start_at(alloc, schema, site)?;
+        Ok(Source::Opening { variable, text })
+    } else {
+        let text = value_at(alloc, schema, site)?;
+        Ok(Source::Setting { variable, text })
+    }
+}
+
+// The same of a component that begins at this place.
 fn setting(
     alloc: Global,
     schema: &Schema,
     numbers: &Numbers,
     variables: &[Declared],
     place: Place,
-    site: Site,
+    setter: Setter,
 ) -> Result<Noted, AllocError>
-    requires site { IsSite schema.now site }
+    requires site { IsSite schema.now setter.site }
     requires numbers { AreNumbers schema.now numbers.now }
     requires variables { variables.now ≡ variables_of schema.now }
-    ensures { IfOk result (λ noted. noted ≡ spec.noted_setting schema.now place site) }
+    ensures { IfOk result (λ noted. noted ≡ spec.noted_setting schema.now place setter) }
 {
-    let variable = target_at(schema, numbers, variables, site);
-    let text = value_at(alloc, schema, site)?;
+    let Setter { site, opens } = setter;
     Ok(Noted {
-        source: Source::Setting { variable, text },
+        source: setter_source(alloc, schema, numbers, variables, opens, site)?,
         place,
         site,
     })
@@ -152,23 +190,23 @@ fn push_tests(
     Ok(())
 }
 
-// Adds what sets variables at a component that begins at this place.
+// Adds what opens instances of variables and what sets variables at a component that begins at this place.
 fn push_settings(
     alloc: Global,
     schema: &Schema,
     numbers: &Numbers,
     variables: &[Declared],
     place: Place,
-    settings: &[Site],
+    settings: &[Setter],
     noted: &mut Vec<Noted>,
 ) -> Result<(), AllocError>
-    requires settings { All (IsSite schema.now) settings.now }
+    requires settings { All (IsSetterOf schema.now) settings.now }
     requires numbers { AreNumbers schema.now numbers.now }
     requires variables { variables.now ≡ variables_of schema.now }
     ensures { OnOk result (noted.new.items ≡ noted.old.items ++ map (spec.noted_setting schema.now place) settings.now) }
 {
-    for site in settings {
-        noted.push(setting(alloc, schema, numbers, variables, place, *site)?)?;
+    for setter in settings {
+        noted.push(setting(alloc, schema, numbers, variables, place, *setter)?)?;
     }
     Ok(())
 }
@@ -201,7 +239,7 @@ fn push_parts(
     checks: CheckList,
     noted: &mut Vec<Noted>,
 ) -> Result<(), AllocError>
-    requires settings { All (IsSite schema.now) settings }
+    requires settings { All (IsSetterOf schema.now) settings }
     requires numbers { AreNumbers schema.now numbers.now }
     requires variables { variables.now ≡ variables_of schema.now }
     ensures { OnOk result (noted.new.items ≡ noted.old.items ++ spec.noted_parts schema.now place site tests settings checks) }
@@ -221,7 +259,6 @@ fn push_parts(
 }
 
 // Adds the statements of a component.
-#[tactic(auto, using(crate::proofs::Told::expressions_behind))]
 fn push_stated(
     alloc: Global,
     schema: &Schema,
@@ -246,6 +283,7 @@ fn push_stated(
         calculation,
         measure,
         count,
+        key,
     } = stated;
     let place = schema.place(site);
     push_parts(
@@ -260,6 +298,7 @@ fn push_stated(
         calculation,
         measure,
         count,
+        key,
         noted,
     )?;
     Ok(())

@@ -39,6 +39,10 @@ returns-clause-sound c = λ purpose refused documents own sound uncalculated sim
 pub returns-clause-nil : goal.returns-clause-nil
 returns-clause-nil c = λ purpose refused documents own p is. c.representations_are_bounded.ensures.nil (judged_at purpose refused documents own) p is
 
-pub returns-clause-empty : goal.returns-clause-empty
-returns-clause-empty c =
-    λ purpose refused documents own p is written. c.representations_are_bounded.ensures.empty (judged_at purpose refused documents own) p is written
+pub returns-clause-required : goal.returns-clause-required
+returns-clause-required c =
+    λ purpose refused documents own p is written. c.representations_are_bounded.ensures.required (judged_at purpose refused documents own) p is written
+
+pub returns-clause-where_tried : goal.returns-clause-where_tried
+returns-clause-where_tried c =
+    λ purpose refused documents own p is written. c.representations_are_bounded.ensures.where_tried (judged_at purpose refused documents own) p is written

@@ -29,3 +29,6 @@ returns-clause-unmeasured c = λ refused documents own. refl
 
 pub returns-clause-uncounted : goal.returns-clause-uncounted
 returns-clause-uncounted c = λ refused documents own. refl
+
+pub returns-clause-unkeyed : goal.returns-clause-unkeyed
+returns-clause-unkeyed c = λ refused documents own. refl

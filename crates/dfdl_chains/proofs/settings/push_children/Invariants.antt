@@ -1,7 +1,7 @@
 use Rattle.std.proofs.Common.{◌≡◌, ◌++◌, drop}
 use Rattle.std.specs.List.{flat_map}
-use Rattle.dfdl_chains.specs.Settings.{setting_if}
+use Rattle.dfdl_chains.specs.Settings.{setter_if}
 use Rattle.dfdl_chains.proofs.settings.push_children.Given as goal
 
 abbrev pub invariant-loop-child : goal.invariant-loop-child
-invariant-loop-child l = l.settings.items ++ flat_map (setting_if l.schema l.fn.site.document) (drop l.child-index l.child-items) ≡ l.fn.settings.items ++ flat_map (setting_if l.schema l.fn.site.document) l.child-items
+invariant-loop-child l = l.settings.items ++ flat_map (setter_if l.opens l.schema l.fn.site.document) (drop l.child-index l.child-items) ≡ l.fn.settings.items ++ flat_map (setter_if l.opens l.schema l.fn.site.document) l.child-items

@@ -8,6 +8,8 @@ use Rattle.dfdl_checks.proofs.fill.fill_of.Goals as goal
 abbrev fill : ℕ → ℕ → ℕ → Framing
 fill leading alignment trailing = record {
   before = no_fill.before;
+  openings = no_fill.openings;
+  settings = no_fill.settings;
   leading_skip = leading;
   alignment = alignment;
   initiator = None;

@@ -3,6 +3,7 @@ use Rattle.dfdl_checks.proofs.Alike.{same-component}
 use Rattle.dfdl_checks.specs.Boxes.{size_of_box}
 use Rattle.dfdl_checks.specs.Delimiters.{delimiters_of}
 use Rattle.dfdl_checks.specs.Framing.{framing_of}
+use Rattle.dfdl_checks.specs.Keys.{key_expression, keys_of}
 use Rattle.dfdl_checks.specs.Measures.{count_expression, measure_of}
 use Rattle.dfdl_checks.specs.Numbers.{primitive_of}
 use Rattle.dfdl_checks.specs.Occurrences.{occurrences_of}
@@ -50,3 +51,9 @@ returns-clause-measure c = λ a b alike. ap measure_of (same-component a b alike
 
 pub returns-clause-count : goal.returns-clause-count
 returns-clause-count c = λ a b alike. ap count_expression (same-component a b alike)
+
+pub returns-clause-key : goal.returns-clause-key
+returns-clause-key c = λ a b alike. ap key_expression (same-component a b alike)
+
+pub returns-clause-keys : goal.returns-clause-keys
+returns-clause-keys c = λ a b alike. ap keys_of (same-component a b alike)

@@ -42,7 +42,7 @@ pub finish-requires-clause-bounded : goal.finish-requires-clause-bounded
 finish-requires-clause-bounded c =
     bounded c.args.purpose c.requires.told.0 c.args.schema.now c.sound_elements_have_bounded_primitives.ensures.bounded
     c.sound_elements_have_bounded_primitives.ensures.prefix c.sound_elements_have_bounded_primitives.ensures.nil
-    c.sound_elements_have_bounded_primitives.ensures.empty c.in_ok-told.told.primitives.items
+    c.sound_elements_have_bounded_primitives.ensures.required c.sound_elements_have_bounded_primitives.ensures.where_tried c.in_ok-told.told.primitives.items
     (tables_are c.args.purpose c.requires.told.0 c.args.schema.now c.args.judgements.items c.in_ok-told.told.primitives.items c.requires.told.1 c.in_ok-told.ensures.primitives)
     c.in_ok-told.ensures.written
 

@@ -1,7 +1,7 @@
 use Rattle.std.proofs.Common.{◌≡◌, ◌∙◌, refl, ℕ, List, [], true, ap, drop, subst, sym}
 use Rattle.dfdl_grammar.specs.declared.end.End.{End}
 use Rattle.dfdl_grammar.specs.declared.end.End.TheVariants.{Failed}
-use Rattle.dfdl_grammar.specs.States.{State}
+use Rattle.dfdl_grammar.specs.States.{State, instances_within}
 use Rattle.dfdl_vars.specs.Kept.{Kept}
 use Rattle.dfdl_vars.specs.Marks.{LeadsBack}
 use Rattle.dfdl_vars.proofs.Ways.{sound_opened}
@@ -64,7 +64,7 @@ returns-clause-closed_failed c input table id s cause bit failed =
     ap (λ (h : ℕ). drop h t.lists) ends.hidden ∙ ap (λ (ls : List ℕ). drop s.hidden ls) ends.lists
 
 pub returns-clause-front : goal.returns-clause-front
-returns-clause-front c table start = sound_opened table.variables [] 0
+returns-clause-front c table start = sound_opened table.variables [] (instances_within table.rows)
 
 pub returns-clause-sound : goal.returns-clause-sound
 returns-clause-sound c input table id s sound = ((meaning-goes input table id s).grown.ways s.variables (sound, sound)).1

@@ -1,4 +1,4 @@
-use Rattle.dfdl_json.proofs.Declares.{there, on_ok, below_elem, below_group, elem_visited, elem_less, parts_visited, parts_less, group_declares, group_steps, bare_visited, bare_less, leaf_declares, leaf_steps, skip_declares, skip_steps, align_declares, align_steps, initiator_declares, initiator_steps, terminator_declares, separator_declares, terminator_steps, separator_steps, below_scope, below_concluded, scope_declares, concluded_declares, scope_steps, concluded_steps, below_box, box_declares, box_steps, body_visited, body_less, prefixed_leaf_declares, prefixed_leaf_steps, below_prefixed_box, prefixed_box_declares, prefixed_box_steps, below_repeat, repeat_declares, repeat_steps, below_optional, optional_declares, optional_steps, below_choice, choice_declares, choice_steps, statement_declares, statement_steps, below_hidden, hidden_declares, hidden_steps, measured_leaf_declares, measured_leaf_steps, below_measured_box, measured_box_declares, measured_box_steps, below_counted, counted_declares, counted_steps, below_dispatch, dispatch_declares, dispatch_steps, below_separated, separated_declares, separated_steps, no_row_declares, no_row_steps}
+use Rattle.dfdl_json.proofs.Declares.{there, on_ok, below_elem, below_group, elem_visited, elem_less, parts_visited, parts_less, group_declares, group_steps, bare_visited, bare_less, leaf_declares, leaf_steps, skip_declares, skip_steps, align_declares, align_steps, initiator_declares, initiator_steps, terminator_declares, separator_declares, terminator_steps, separator_steps, below_scope, below_concluded, scope_declares, concluded_declares, scope_steps, concluded_steps, below_box, box_declares, box_steps, body_visited, body_less, prefixed_leaf_declares, prefixed_leaf_steps, below_prefixed_box, prefixed_box_declares, prefixed_box_steps, below_repeat, repeat_declares, repeat_steps, below_optional, optional_declares, optional_steps, below_choice, choice_declares, choice_steps, statement_declares, statement_steps, below_hidden, hidden_declares, hidden_steps, below_spanned, spanned_declares, spanned_steps, below_instance, instance_declares, instance_steps, measured_leaf_declares, measured_leaf_steps, below_measured_box, measured_box_declares, measured_box_steps, below_counted, counted_declares, counted_steps, below_dispatch, dispatch_declares, dispatch_steps, below_separated, separated_declares, separated_steps, no_row_declares, no_row_steps}
 use Rattle.std.proofs.Common.{sym, ◌∙◌, ap, [], ◌++◌}
 use Rattle.dfdl_json.specs.Children.{bodies_of, keyed}
 use Rattle.dfdl_json.proofs.children.visit.Goals as goal
@@ -218,6 +218,30 @@ returns-in-Some-Hidden-clause-less c = on_ok c.push_all-in-Some-Hidden.result _ 
     (body_less c.args.terms.now c.args.row [] _ c.in-Some-Hidden.body _
     (hidden_steps c.args.terms.now c.args.row _ (there _ _ _ c.in-Some-Hidden.ensures.row c.in-Some-Hidden.field-0-is)
     (below_hidden _ _ _ c.in-Some-Hidden.field-0-is c.in-Some-Hidden.ensures.nests)))
+
+pub returns-in-Some-Spanned-clause-same : goal.returns-in-Some-Spanned-clause-same
+returns-in-Some-Spanned-clause-same c = on_ok c.push_all-in-Some-Spanned.result _ _ c.push_all-in-Some-Spanned.ensures
+    (body_visited c.args.terms.now c.args.row c.args.elements.now.items _ c.in-Some-Spanned.body _
+    (spanned_declares c.args.terms.now c.args.row _ (there _ _ _ c.in-Some-Spanned.ensures.row c.in-Some-Spanned.field-0-is)
+    (below_spanned _ _ _ c.in-Some-Spanned.field-0-is c.in-Some-Spanned.ensures.nests)))
+
+pub returns-in-Some-Spanned-clause-less : goal.returns-in-Some-Spanned-clause-less
+returns-in-Some-Spanned-clause-less c = on_ok c.push_all-in-Some-Spanned.result _ _ c.push_all-in-Some-Spanned.ensures
+    (body_less c.args.terms.now c.args.row [] _ c.in-Some-Spanned.body _
+    (spanned_steps c.args.terms.now c.args.row _ (there _ _ _ c.in-Some-Spanned.ensures.row c.in-Some-Spanned.field-0-is)
+    (below_spanned _ _ _ c.in-Some-Spanned.field-0-is c.in-Some-Spanned.ensures.nests)))
+
+pub returns-in-Some-Instance-clause-same : goal.returns-in-Some-Instance-clause-same
+returns-in-Some-Instance-clause-same c = on_ok c.push_all-in-Some-Instance.result _ _ c.push_all-in-Some-Instance.ensures
+    (body_visited c.args.terms.now c.args.row c.args.elements.now.items _ c.in-Some-Instance.body _
+    (instance_declares c.args.terms.now c.args.row _ _ (there _ _ _ c.in-Some-Instance.ensures.row c.in-Some-Instance.field-0-is)
+    (below_instance _ _ _ _ c.in-Some-Instance.field-0-is c.in-Some-Instance.ensures.nests)))
+
+pub returns-in-Some-Instance-clause-less : goal.returns-in-Some-Instance-clause-less
+returns-in-Some-Instance-clause-less c = on_ok c.push_all-in-Some-Instance.result _ _ c.push_all-in-Some-Instance.ensures
+    (body_less c.args.terms.now c.args.row [] _ c.in-Some-Instance.body _
+    (instance_steps c.args.terms.now c.args.row _ _ (there _ _ _ c.in-Some-Instance.ensures.row c.in-Some-Instance.field-0-is)
+    (below_instance _ _ _ _ c.in-Some-Instance.field-0-is c.in-Some-Instance.ensures.nests)))
 
 pub returns-in-Some-Dispatch-clause-same : goal.returns-in-Some-Dispatch-clause-same
 returns-in-Some-Dispatch-clause-same c = on_ok c.push_keys.result _ _ c.push_keys.ensures

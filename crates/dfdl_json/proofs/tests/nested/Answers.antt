@@ -10,7 +10,13 @@ use Rattle.dfdl_terms.specs.Tables.{Named}
 use Rattle.dfdl_json.proofs.tests.nested.Goals as goal
 
 abbrev no_trials : Representations
-no_trials = record { nil = None; empty = None; refuses_empty = false; are_several = false }
+no_trials = record {
+  nil = None;
+  empty = None;
+  refuses_empty = false;
+  are_several = false;
+  where_tried = record { empty = None; refuses_empty = false; are_several = false };
+}
 
 abbrev none_behind : Statements
 none_behind = record { first = 0; count = 0 }

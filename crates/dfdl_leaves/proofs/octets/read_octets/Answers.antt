@@ -1,8 +1,10 @@
-use Rattle.std.proofs.Common.{◌≡◌, ℕ, ◌+◌, ◌-◌, ◌/◌, ◌<◌, length, ap, arith}
+use Rattle.std.proofs.Common.{◌≡◌, ℕ, ◌+◌, ◌-◌, ◌/◌, ◌%◌, ◌<◌, ◌∙◌, length, ap, arith}
 use Rattle.dfdl_bits.specs.Window.{seen_at}
 use Rattle.dfdl_looks.specs.Asks.{Told}
 use Rattle.dfdl_terms.specs.declared.row.Primitive.TheVariants.{Octets}
 use Rattle.dfdl_grammar.specs.Leaves.{FindsOctets, bytes_spanned}
+use Rattle.dfdl_grammar.specs.Octets.{octets_from}
+use Rattle.dfdl_grammar.specs.declared.span.Span.{Span}
 use Rattle.dfdl_leaves.specs.declared.leaf.Found.TheVariants.{Octets as HasOctets}
 use Rattle.dfdl_leaves.proofs.HexBinaries.{field_read}
 use Rattle.dfdl_leaves.proofs.Leaves.{cut_read, whole_read}
@@ -26,4 +28,6 @@ returns-clause-answers g c =
     let all : bytes_spanned c.args.bit form.bits ≡ length run = omega arith in
     field_read look form c.args.bit _ c.if-form-eq0.false c.if-form-ne0.false _ looks
     (whole_read look (Octets form) c.args.bit run c.run-run.ensures.seen (omega arith) all _
-    (HasOctets (c.args.bit + form.bits)) (ap (λ bytes. Told (FindsOctets bytes (c.args.bit + form.bits))) c.in_ok-put_octets.ensures) (c.args.bit / 8 + c.spanned-count.result) (omega arith) looks (omega arith))
+    (HasOctets c.filled.result)
+    (ap (λ bytes. Told (FindsOctets bytes c.filled.result)) c.in_ok-put_octets.ensures
+    ∙ ap (λ (span : Span). Told (FindsOctets (octets_from form.bits_by run (c.args.bit % 8) (form.bits / 8)) span)) c.filled.ensures) (c.args.bit / 8 + c.spanned-count.result) (omega arith) looks (omega arith))

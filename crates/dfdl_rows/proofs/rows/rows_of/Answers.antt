@@ -38,7 +38,7 @@ returns-clause-nests c =
 pub returns-clause-root : goal.returns-clause-root
 returns-clause-root c =
     subst (EndsWith (component_at c.args.components.now.components c.args.root)) (sym c.in_ok-all_rows.ensures)
-    (rows_end c.args.components.now c.facts.ensures.ordered c.facts.ensures.of_one c.args.root c.requires)
+    (rows_end c.args.components.now c.facts.ensures.ordered c.args.root c.requires)
 
 pub returns-clause-named : goal.returns-clause-named
 returns-clause-named c = λ named has lists statements.

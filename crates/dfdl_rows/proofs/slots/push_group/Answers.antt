@@ -1,6 +1,6 @@
 use Rattle.std.proofs.Common.{◌≡◌, ◌∙◌, ◌+◌, ◌++◌, ◌∷◌, [], ℕ, List, Some, None, IfOk, length, sym, ap, subst, arith}
 use Rattle.dfdl_terms.specs.declared.row.Row.{Row}
-use Rattle.dfdl_rows.specs.Slots.{laid_size, slots_size}
+use Rattle.dfdl_rows.specs.Slots.{kind_of, laid_size, slots_size}
 use Rattle.dfdl_rows.proofs.Grouped.{grouped_apart, size_apart}
 use Rattle.dfdl_rows.proofs.Walks.{on_ok}
 use Rattle.dfdl_rows.proofs.slots.push_group.Goals as goal
@@ -18,7 +18,7 @@ returns-in_ok-row-in-Some-clause-rows c =
     is
     ∙ ap (λ (own : List Row). c.args.rows.now.items ++ own)
     (ap (λ (row : Row). row ∷ []) c.in_ok-row-in-Some.ensures
-    ∙ grouped_apart (Some c.in-Some.own) c.args.group.separated c.args.group.kind c.args.group.initiated c.args.slots.now c.args.parts.now
+    ∙ grouped_apart (Some c.in-Some.own) c.args.group.separated (kind_of c.args.group.kind c.args.dispatch.now) c.args.group.initiated c.args.slots.now c.args.parts.now
     (length c.args.rows.now.items) (sym c.in-Some.is ∙ c.apart.ensures)))
 
 pub returns-in_ok-row-in-Some-clause-number : goal.returns-in_ok-row-in-Some-clause-number
@@ -34,7 +34,7 @@ returns-in-None-clause-rows c =
     (λ is.
     is
     ∙ ap (λ (own : List Row). c.args.rows.now.items ++ own)
-    (grouped_apart None c.args.group.separated c.args.group.kind c.args.group.initiated c.args.slots.now c.args.parts.now
+    (grouped_apart None c.args.group.separated (kind_of c.args.group.kind c.args.dispatch.now) c.args.group.initiated c.args.slots.now c.args.parts.now
     (length c.args.rows.now.items) (sym c.in-None.is ∙ c.apart.ensures)))
 
 pub returns-in-None-clause-number : goal.returns-in-None-clause-number

@@ -1,4 +1,4 @@
-use Rattle.dfdl_statements.proofs.Kinded.{calculation_told, question_told, set_told, test_told}
+use Rattle.dfdl_statements.proofs.Kinded.{calculation_told, opened_told, question_told, set_told, test_told}
 use Rattle.dfdl_statements.proofs.making.judge.Goals as goal
 
 pub returns-in-Test : goal.returns-in-Test
@@ -10,6 +10,11 @@ pub returns-in-Setting : goal.returns-in-Setting
 returns-in-Setting c = λ read reads.
     set_told read c.args.statics.now c.setting_told.result c.args.source.now c.in-Setting.text c.as_str-in-Setting.result.now c.in-Setting.variable
     c.in-Setting.is c.as_str-in-Setting.ensures (c.setting_told.ensures read reads)
+
+pub returns-in-Opening : goal.returns-in-Opening
+returns-in-Opening c = λ read reads.
+    opened_told read c.args.statics.now c.opening_told.result c.args.source.now c.in-Opening.text c.in-Opening.variable c.in-Opening.is
+    (c.opening_told.ensures read reads)
 
 pub returns-in-Calculation : goal.returns-in-Calculation
 returns-in-Calculation c = λ read reads.

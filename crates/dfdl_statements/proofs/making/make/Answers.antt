@@ -1,4 +1,4 @@
-use Rattle.dfdl_statements.proofs.Kinded.{calculation_made, question_made, set_made, test_made}
+use Rattle.dfdl_statements.proofs.Kinded.{calculation_made, opened_made, question_made, set_made, test_made}
 use Rattle.dfdl_statements.proofs.making.make.Goals as goal
 
 pub returns-in-Test-clause-answer : goal.returns-in-Test-clause-answer
@@ -10,6 +10,11 @@ pub returns-in-Setting-clause-answer : goal.returns-in-Setting-clause-answer
 returns-in-Setting-clause-answer c = λ read reads.
     set_made read c.args.statics.now c.setting_made.result c.args.source c.in-Setting.text c.as_str-in-Setting.result.now c.in-Setting.variable
     c.in-Setting.is c.as_str-in-Setting.ensures (c.setting_made.ensures read reads)
+
+pub returns-in-Opening-clause-answer : goal.returns-in-Opening-clause-answer
+returns-in-Opening-clause-answer c = λ read reads.
+    opened_made read c.args.statics.now c.opening_made.result c.args.source c.in-Opening.text c.in-Opening.variable c.in-Opening.is
+    (c.opening_made.ensures read reads)
 
 pub returns-in-Calculation-clause-answer : goal.returns-in-Calculation-clause-answer
 returns-in-Calculation-clause-answer c = λ read reads.

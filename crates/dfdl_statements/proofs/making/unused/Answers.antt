@@ -11,6 +11,10 @@ pub returns-in-Setting-clause-answer : goal.returns-in-Setting-clause-answer
 returns-in-Setting-clause-answer c =
     subst (λ o. Gives (Ok (unused o)) c.test_of-in-Setting.result) (sym c.in-Setting.is) (c.test_of-in-Setting.ensures (Ok never_asked) c.never_asked-in-Setting.ensures)
 
+pub returns-in-Opening-clause-answer : goal.returns-in-Opening-clause-answer
+returns-in-Opening-clause-answer c =
+    subst (λ o. Gives (Ok (unused o)) c.test_of-in-Opening.result) (sym c.in-Opening.is) (c.test_of-in-Opening.ensures (Ok never_asked) c.never_asked-in-Opening.ensures)
+
 pub returns-in-Calculation-clause-answer : goal.returns-in-Calculation-clause-answer
 returns-in-Calculation-clause-answer c =
     subst (λ o. Gives (Ok (unused o)) c.calculation_of.result) (sym c.in-Calculation.is)

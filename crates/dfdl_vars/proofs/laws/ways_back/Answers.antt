@@ -1,4 +1,4 @@
-use Rattle.dfdl_vars.proofs.Ways.{here, back_set, back_read, back_entered, back_left, sound_opened, sound_set, sound_read, sound_gone}
+use Rattle.dfdl_vars.proofs.Ways.{here, back_set, back_read, back_entered, back_left, sound_opened, sound_set, sound_read, sound_entered, sound_left, sound_gone}
 use Rattle.dfdl_vars.proofs.laws.ways_back.Goals as goal
 
 pub returns-clause-here : goal.returns-clause-here
@@ -24,6 +24,12 @@ returns-clause-sound_set c = sound_set
 
 pub returns-clause-sound_read : goal.returns-clause-sound_read
 returns-clause-sound_read c = sound_read
+
+pub returns-clause-sound_entered : goal.returns-clause-sound_entered
+returns-clause-sound_entered c = sound_entered
+
+pub returns-clause-sound_left : goal.returns-clause-sound_left
+returns-clause-sound_left c = sound_left
 
 pub returns-clause-sound_gone : goal.returns-clause-sound_gone
 returns-clause-sound_gone c = sound_gone

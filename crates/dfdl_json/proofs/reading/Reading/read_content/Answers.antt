@@ -6,7 +6,7 @@ use Rattle.dfdl_json.specs.Found.{noted}
 use Rattle.dfdl_json.specs.Infosets.{simple_findings, complex_findings, findings, value_in}
 use Rattle.dfdl_json.specs.Reading.{coming, data_at}
 use Rattle.dfdl_json.proofs.Declares.{there, on_ok, on_ok_four, below_elem}
-use Rattle.dfdl_json.proofs.Contents.{left_same, simple_less, complex_less, simple_comes, complex_comes, bare_comes, leaf_says, group_says, skip_says, align_says, initiator_says, terminator_says, separator_says, scope_says, concluded_says, repeat_says, optional_says, choice_says, statement_says, hidden_says, separated_says, box_says, prefixed_leaf_says, prefixed_box_says, measured_leaf_says, measured_box_says, counted_says, dispatch_says, no_row_says, less_left}
+use Rattle.dfdl_json.proofs.Contents.{left_same, simple_less, complex_less, simple_comes, complex_comes, bare_comes, leaf_says, group_says, skip_says, align_says, initiator_says, terminator_says, separator_says, scope_says, concluded_says, repeat_says, optional_says, choice_says, statement_says, hidden_says, spanned_says, instance_says, separated_says, box_says, prefixed_leaf_says, prefixed_box_says, measured_leaf_says, measured_box_says, counted_says, dispatch_says, no_row_says, less_left}
 use Rattle.dfdl_json.proofs.reading.Reading.read_content.Goals as goal
 
 pub returns-in-Some-clause-same : goal.returns-in-Some-clause-same
@@ -232,6 +232,24 @@ returns-in-Some-Hidden-clause-same c =
 
 pub returns-in-Some-Hidden-clause-less : goal.returns-in-Some-Hidden-clause-less
 returns-in-Some-Hidden-clause-less c = less_left c.args.terms.now c.args.row c.args.self.now.tasks.items
+
+pub returns-in-Some-Spanned-clause-same : goal.returns-in-Some-Spanned-clause-same
+returns-in-Some-Spanned-clause-same c =
+    bare_comes c.args.terms.now c.args.row (view c.args.content.now) c.args.self.now.around c.args.self.now.found c.args.self.now.tasks.items
+    (data_at c.args.self.now.contents.items)
+    (spanned_says c.args.terms.now c.args.row (view c.args.content.now) c.args.self.now.around _ (there _ _ _ c.in-Some-Spanned.ensures.row c.in-Some-Spanned.field-0-is))
+
+pub returns-in-Some-Spanned-clause-less : goal.returns-in-Some-Spanned-clause-less
+returns-in-Some-Spanned-clause-less c = less_left c.args.terms.now c.args.row c.args.self.now.tasks.items
+
+pub returns-in-Some-Instance-clause-same : goal.returns-in-Some-Instance-clause-same
+returns-in-Some-Instance-clause-same c =
+    bare_comes c.args.terms.now c.args.row (view c.args.content.now) c.args.self.now.around c.args.self.now.found c.args.self.now.tasks.items
+    (data_at c.args.self.now.contents.items)
+    (instance_says c.args.terms.now c.args.row (view c.args.content.now) c.args.self.now.around _ _ (there _ _ _ c.in-Some-Instance.ensures.row c.in-Some-Instance.field-0-is))
+
+pub returns-in-Some-Instance-clause-less : goal.returns-in-Some-Instance-clause-less
+returns-in-Some-Instance-clause-less c = less_left c.args.terms.now c.args.row c.args.self.now.tasks.items
 
 pub returns-in-Some-Separated-clause-same : goal.returns-in-Some-Separated-clause-same
 returns-in-Some-Separated-clause-same c =

@@ -4,11 +4,12 @@ use Rattle.dfdl_terms.specs.declared.keys.Key.{Key}
 use Rattle.dfdl_grammar.specs.Leaves.{read_by}
 use Rattle.dfdl_parse.specs.declared.frame.Behind.TheVariants as behind
 use Rattle.dfdl_parse.specs.Asking.{begins, counted_begins, dispatch_begins, measured_begins}
+use Rattle.dfdl_parse.specs.Instances.{instanced_begins}
 use Rattle.dfdl_parse.specs.Steps.{Moved}
 use Rattle.dfdl_parse.specs.Shown.{limits_of, state_of}
-use Rattle.dfdl_parse.proofs.Landings.{asking-entered, box-entered, concluded-entered, leaf-entered, scope-entered, separated-entered, statement-entered}
+use Rattle.dfdl_parse.proofs.Landings.{asking-entered, box-entered, concluded-entered, leaf-entered, scope-entered, separated-entered, spanned-entered, statement-entered}
 use Rattle.std.proofs.Common.{List}
-use Rattle.dfdl_terms.specs.declared.row.Row.TheVariants.{Counted, Dispatch, MeasuredBox, MeasuredLeaf, Separated}
+use Rattle.dfdl_terms.specs.declared.row.Row.TheVariants.{Counted, Dispatch, Instance, MeasuredBox, MeasuredLeaf, Separated}
 use Rattle.dfdl_terms.specs.declared.slots.Slot.{Slot}
 use Rattle.dfdl_parse.specs.Slots.{enter_separated}
 use Rattle.dfdl_parse.proofs.SlotMoves.{separated-passes}
@@ -35,6 +36,13 @@ returns-in_ok-begin_scope-in-Scope-clause-moved g c =
     scope-entered (limits_of old c.args.sight.now) c.args.terms.now c.args.sight.now c.args.id c.row.result.now old.stack (state_of old) old.far c.begin_scope.new.self
     c.row.ensures.row c.in-Scope.list c.in-Scope.body (c.args.steps.now - c.args.steps.now) c.in-Scope.is (omega arith)
     (c.in_ok-begin_scope-in-Scope.ensures.moved c.args.sight.now one_row (refl, refl))
+
+pub returns-in_ok-begin_span-in-Spanned-clause-moved : goal.returns-in_ok-begin_span-in-Spanned-clause-moved
+returns-in_ok-begin_span-in-Spanned-clause-moved g c =
+    let old = c.args.self.now in
+    spanned-entered (limits_of old c.args.sight.now) c.args.terms.now c.args.sight.now c.args.id c.row.result.now old.stack (state_of old) old.far c.begin_span.new.self
+    c.row.ensures.row c.in-Spanned.body (c.args.steps.now - c.args.steps.now) c.in-Spanned.is (omega arith)
+    (c.in_ok-begin_span-in-Spanned.ensures.moved c.args.sight.now one_row (refl, refl))
 
 pub returns-in_ok-begin_separated-in-Separated-clause-moved : goal.returns-in_ok-begin_separated-in-Separated-clause-moved
 returns-in_ok-begin_separated-in-Separated-clause-moved g c =
@@ -109,3 +117,13 @@ returns-in_ok-begin_dispatch-in-Dispatch-clause-moved g c =
     asking-entered (limits_of old held) table held c.args.id c.row.result.now old.stack (state_of old) old.far c.begin_dispatch.new.self
     c.row.ensures.row (Dispatch row.question keys) (dispatch_begins table row.question keys old.stack (state_of old)) (c.args.steps.now - c.args.steps.now)
     (row.is ∙ ap (Dispatch row.question) (sym c.as_slice-in-Dispatch.ensures)) refl (omega arith) (c.in_ok-begin_dispatch-in-Dispatch.ensures.moved held)
+
+pub returns-in_ok-begin_instance-in-Instance-clause-moved : goal.returns-in_ok-begin_instance-in-Instance-clause-moved
+returns-in_ok-begin_instance-in-Instance-clause-moved g c =
+    let old = c.args.self.now in
+    let held = c.args.sight.now in
+    let table = c.args.terms.now in
+    let row = c.in-Instance in
+    asking-entered (limits_of old held) table held c.args.id c.row.result.now old.stack (state_of old) old.far c.begin_instance.new.self
+    c.row.ensures.row (Instance row.statement row.body) (instanced_begins table row.statement row.body old.stack (state_of old))
+    (c.args.steps.now - c.args.steps.now) row.is refl (omega arith) (c.in_ok-begin_instance-in-Instance.ensures.moved held)

@@ -1,6 +1,6 @@
 use Rattle.std.proofs.Common.{Bool, cond, false, subst, sym, ◌∙◌}
 use Rattle.dfdl_grammar.specs.Marks.{closed}
-use Rattle.dfdl_grammar.specs.Occurrences.{dropped}
+use Rattle.dfdl_grammar.specs.Occurrences.{as_normal, dropped}
 use Rattle.dfdl_grammar.specs.declared.end.End.TheVariants.{Done}
 use Rattle.dfdl_looks.specs.Tallies.{nothing}
 use Rattle.dfdl_parse.specs.declared.frame.Focus.TheVariants.{Leave}
@@ -12,13 +12,13 @@ use Rattle.dfdl_parse.proofs.parser.Parser.fail_occurrence.Goals as goal
 pub returns-then-settled-clause-moved : goal.returns-then-settled-clause-moved
 returns-then-settled-clause-moved c held =
     let old = c.args.self.now in
-    subst (λ (b : Bool). Moved (cond b (pass nothing held (Leave c.args.end) old.stack (closed (state_of old)))
-    (pass nothing held (Leave Done) old.stack (dropped (state_of old)))) false old.far c.end_trial.new.self held 0)
+    subst (λ (b : Bool). Moved (cond b (pass nothing held (Leave c.args.end) old.stack (closed (as_normal (state_of old))))
+    (pass nothing held (Leave Done) old.stack (dropped (as_normal (state_of old))))) false old.far c.end_trial.new.self held 0)
     (sym (sym c.is_settled-settled.ensures ∙ c.if-settled.true)) (c.end_trial.ensures.moved held)
 
 pub returns-else-settled-clause-moved : goal.returns-else-settled-clause-moved
 returns-else-settled-clause-moved c held =
     let old = c.args.self.now in
-    subst (λ (b : Bool). Moved (cond b (pass nothing held (Leave c.args.end) old.stack (closed (state_of old)))
-    (pass nothing held (Leave Done) old.stack (dropped (state_of old)))) false old.far c.drop_occurrence.new.self held 0)
+    subst (λ (b : Bool). Moved (cond b (pass nothing held (Leave c.args.end) old.stack (closed (as_normal (state_of old))))
+    (pass nothing held (Leave Done) old.stack (dropped (as_normal (state_of old))))) false old.far c.drop_occurrence.new.self held 0)
     (sym (sym c.is_settled-settled.ensures ∙ c.if-settled.false)) (c.drop_occurrence.ensures.moved held)

@@ -1,5 +1,6 @@
 use Rattle.std.proofs.Common.{false, subst, sym}
 use Rattle.dfdl_parse.specs.Machines.{leave_failed}
+use Rattle.dfdl_grammar.specs.Occurrences.{as_normal}
 use Rattle.dfdl_parse.specs.Steps.{Moved}
 use Rattle.dfdl_parse.specs.Shown.{state_of}
 use Rattle.dfdl_parse.specs.declared.frame.Frame.{Frame}
@@ -20,6 +21,12 @@ returns-in-Scope-clause-moved c held =
     subst (λ (f : Frame). Moved (leave_failed old.region.most c.args.terms.now held f c.args.end old.stack (state_of old)) false old.far c.end_scope.new.self held 0)
     (sym c.in-Scope.is) (c.end_scope.ensures.moved held)
 
+pub returns-in-Instance-clause-moved : goal.returns-in-Instance-clause-moved
+returns-in-Instance-clause-moved c held =
+    let old = c.args.self.now in
+    subst (λ (f : Frame). Moved (leave_failed old.region.most c.args.terms.now held f c.args.end old.stack (state_of old)) false old.far c.end_instance.new.self held 0)
+    (sym c.in-Instance.is) (c.end_instance.ensures.moved held)
+
 pub returns-in-Occurrence-clause-moved : goal.returns-in-Occurrence-clause-moved
 returns-in-Occurrence-clause-moved c held =
     let old = c.args.self.now in
@@ -37,10 +44,10 @@ returns-in-Before-clause-moved c held =
 pub returns-in-Content-clause-moved : goal.returns-in-Content-clause-moved
 returns-in-Content-clause-moved c held =
     let old = c.args.self.now in
-    let move : Move = content_ended held (separation_at c.args.terms.now c.in-Content.slot).initiated c.in-Content.slot c.in-Content.bit c.in-Content.empty (slots_from c.args.terms.now c.in-Content.slot) false (cause_of c.args.end) c.args.end old.stack (state_of old) in
+    let move : Move = content_ended held (separation_at c.args.terms.now c.in-Content.slot).initiated c.in-Content.slot c.in-Content.bit c.in-Content.empty (slots_from c.args.terms.now c.in-Content.slot) false (cause_of c.args.end) c.args.end old.stack (as_normal (state_of old)) in
     subst (λ (f : Frame). OnOk c.end_content.result (Moved (leave_failed old.region.most c.args.terms.now held f c.args.end old.stack (state_of old)) false old.far c.end_content.new.self held 0)) (sym c.in-Content.is)
     (on_ok c.end_content.result (Becomes old move.machine c.end_content.new.self) (Moved move false old.far c.end_content.new.self held 0) (c.end_content.ensures.becomes held)
-    (pass-moved old c.end_content.new.self held move (ended-passes held (separation_at c.args.terms.now c.in-Content.slot).initiated old.stack c.in-Content.slot c.in-Content.bit c.in-Content.empty (slots_from c.args.terms.now c.in-Content.slot) false (cause_of c.args.end) c.args.end (state_of old))))
+    (pass-moved old c.end_content.new.self held move (ended-passes held (separation_at c.args.terms.now c.in-Content.slot).initiated old.stack c.in-Content.slot c.in-Content.bit c.in-Content.empty (slots_from c.args.terms.now c.in-Content.slot) false (cause_of c.args.end) c.args.end (as_normal (state_of old)))))
 
 pub returns-in-Closing-clause-moved : goal.returns-in-Closing-clause-moved
 returns-in-Closing-clause-moved c held =
@@ -61,7 +68,7 @@ pub returns-in-Content-clause-most : goal.returns-in-Content-clause-most
 returns-in-Content-clause-most c =
     let old = c.args.self.now in
     let any : Held = record { bytes = []; base = 0; size = 0; ended = false } in
-    let move : Move = content_ended any (separation_at c.args.terms.now c.in-Content.slot).initiated c.in-Content.slot c.in-Content.bit c.in-Content.empty (slots_from c.args.terms.now c.in-Content.slot) false (cause_of c.args.end) c.args.end old.stack (state_of old) in
+    let move : Move = content_ended any (separation_at c.args.terms.now c.in-Content.slot).initiated c.in-Content.slot c.in-Content.bit c.in-Content.empty (slots_from c.args.terms.now c.in-Content.slot) false (cause_of c.args.end) c.args.end old.stack (as_normal (state_of old)) in
     on_ok c.end_content.result (Becomes old move.machine c.end_content.new.self) (HasSameLimits old c.end_content.new.self) (c.end_content.ensures.becomes any) (λ there. there.limits)
 
 pub returns-in-Closing-clause-most : goal.returns-in-Closing-clause-most

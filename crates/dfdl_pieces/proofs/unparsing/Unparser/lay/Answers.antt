@@ -1,11 +1,11 @@
 use Rattle.std.proofs.Common.{◌∙◌, ◌∷◌, [], ◌++◌, ◌+◌, Some, None, ap, sym, refl, map}
-use Rattle.dfdl_json.proofs.Declares.{there, below_elem, below_group, below_repeat}
+use Rattle.dfdl_json.proofs.Declares.{there, below_elem, below_group, below_repeat, below_spanned}
 use Rattle.dfdl_terms.specs.declared.row.Row.TheVariants.{Elem}
 use Rattle.dfdl_pieces.specs.declared.unparsing.Task.TheVariants.{Lay}
 use Rattle.dfdl_pieces.specs.Laying.{Takes, begins, begun_laying, form_at, laying, value_for, value_laying}
 use Rattle.dfdl_pieces.specs.Unparsing.{left, outcome, steps_left}
 use Rattle.dfdl_json.specs.Steps.{steps_of}
-use Rattle.dfdl_pieces.proofs.Layings.{laid_simple, laid_complex, laid_group, laid_leaf, laid_skip, laid_align, laid_initiator, laid_terminator, laid_separator, laid_scope, laid_boxed, laid_prefixed_leaf, laid_prefixed_box, laid_repeat, laid_optional, laid_choice, laid_nothing, laid_no_row, same_less, group_less, repeat_less, complex_less}
+use Rattle.dfdl_pieces.proofs.Layings.{laid_simple, laid_complex, laid_group, laid_leaf, laid_skip, laid_align, laid_initiator, laid_terminator, laid_separator, laid_scope, laid_boxed, laid_prefixed_leaf, laid_prefixed_box, laid_repeat, laid_spanned, laid_optional, laid_choice, laid_nothing, laid_no_row, same_less, group_less, repeat_less, spanned_less, complex_less}
 use Rattle.dfdl_pieces.proofs.Moving.{if_ok, if_ok_both, if_ok_any, is_less, less_too, moves_too, moves_same, moves_group}
 use Rattle.dfdl_pieces.proofs.unparsing.Unparser.lay.Goals as goal
 
@@ -263,6 +263,38 @@ returns-in-Some-Hidden-clause-moves c =
 
 pub returns-in-Some-Hidden-clause-less : goal.returns-in-Some-Hidden-clause-less
 returns-in-Some-Hidden-clause-less c = same_less c.args.terms.now c.args.row c.args.self.now.tasks.items c.args.self.now.tasks.items refl
+
+pub returns-in-Some-Spanned-clause-moves : goal.returns-in-Some-Spanned-clause-moves
+returns-in-Some-Spanned-clause-moves c =
+    let old = c.args.self.now in
+    let t = c.args.terms.now in
+    let body = c.in-Some-Spanned.body in
+    let more = left t old.tasks.items old.around in
+    if_ok_both c.lay_group-in-Some-Spanned.result _ _ _ c.lay_group-in-Some-Spanned.ensures.none c.lay_group-in-Some-Spanned.ensures.tasks
+    (λ missing none tasks. moves_group t c.args.events.now old c.lay_group-in-Some-Spanned.new.self (laying t c.args.row old.around more) (body ∷ []) missing none
+    (laid_spanned t c.args.row old.around more body (there _ _ _ c.in-Some-Spanned.ensures.row c.in-Some-Spanned.field-0-is)
+    (below_spanned _ _ _ c.in-Some-Spanned.field-0-is c.in-Some-Spanned.ensures.nests))
+    tasks c.lay_group-in-Some-Spanned.ensures.names c.lay_group-in-Some-Spanned.ensures.at c.lay_group-in-Some-Spanned.ensures.pieces)
+
+pub returns-in-Some-Spanned-clause-less : goal.returns-in-Some-Spanned-clause-less
+returns-in-Some-Spanned-clause-less c =
+    let t = c.args.terms.now in
+    let old = c.args.self.now in
+    if_ok c.lay_group-in-Some-Spanned.result _ _ c.lay_group-in-Some-Spanned.ensures.tasks
+    (λ missing tasks. is_less t (steps_of t c.args.row + steps_left t old.tasks.items) c.lay_group-in-Some-Spanned.new.self missing
+    (spanned_less t c.args.row old.tasks.items c.lay_group-in-Some-Spanned.new.self.tasks.items c.in-Some-Spanned.body
+    (there _ _ _ c.in-Some-Spanned.ensures.row c.in-Some-Spanned.field-0-is)
+    (below_spanned _ _ _ c.in-Some-Spanned.field-0-is c.in-Some-Spanned.ensures.nests) tasks))
+
+pub returns-in-Some-Instance-clause-moves : goal.returns-in-Some-Instance-clause-moves
+returns-in-Some-Instance-clause-moves c =
+    let old = c.args.self.now in
+    let t = c.args.terms.now in
+    ap (outcome old c.args.events.now) (sym (laid_nothing t c.args.row old.around (left t old.tasks.items old.around) _
+    (there _ _ _ c.in-Some-Instance.ensures.row c.in-Some-Instance.field-0-is) refl))
+
+pub returns-in-Some-Instance-clause-less : goal.returns-in-Some-Instance-clause-less
+returns-in-Some-Instance-clause-less c = same_less c.args.terms.now c.args.row c.args.self.now.tasks.items c.args.self.now.tasks.items refl
 
 pub returns-in-Some-Separated-clause-moves : goal.returns-in-Some-Separated-clause-moves
 returns-in-Some-Separated-clause-moves c =

@@ -1,0 +1,7 @@
+use Rattle.std.proofs.Common.{◌≡◌, ◌++◌, drop}
+use Rattle.std.specs.List.{flat_map}
+use Rattle.dfdl_chains.specs.Settings.{setters_within}
+use Rattle.dfdl_chains.proofs.settings.push_own_setters.Given as goal
+
+abbrev pub invariant-loop-child : goal.invariant-loop-child
+invariant-loop-child l = l.settings.items ++ flat_map (setters_within l.opens l.schema l.fn.site.document) (drop l.child-index l.child-items) ≡ l.fn.settings.items ++ flat_map (setters_within l.opens l.schema l.fn.site.document) l.child-items

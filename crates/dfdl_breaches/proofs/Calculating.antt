@@ -8,7 +8,7 @@ use Rattle.dfdl_constructs.specs.declared.role.Role.TheVariants as role
 use Rattle.dfdl_forms.specs.declared.simple.Simple.{Simple}
 use Rattle.dfdl_scope.specs.Expressions.{is_expression}
 use Rattle.dfdl_scope.specs.Scoping.{Element, Told, Value, Absent, Twice, told}
-use Rattle.dfdl_checks.specs.Calculations.{calculation_by, is_single, kind_for, written_told}
+use Rattle.dfdl_checks.specs.Calculations.{calculation_by, is_single, kind_for}
 use Rattle.dfdl_checks.specs.Calculations as calculations
 use Rattle.dfdl_checks.specs.Judged.{FactsJudged}
 use Rattle.dfdl_checks.specs.Subjects.{is_calculated, is_expression_told, is_simple, simple_of}

@@ -1,5 +1,5 @@
 -- The keys by which branches of choices are taken, of components without a breach.
-use Rattle.std.proofs.Common.{◌≡◌, ◌∙◌, refl, sym, ap, subst, ℕ, ◌<◌, List, [], ◌∷◌, length, Bool, true, false, ◌&&◌, ◌||◌, Option, Some, None, if◌then◌else◌, IsTrue, IsSome, is_some, codes, arith}
+use Rattle.std.proofs.Common.{◌≡◌, ◌∙◌, refl, sym, ap, subst, ℕ, ◌<◌, List, [], ◌∷◌, length, Bool, true, false, ◌&&◌, ◌||◌, None, if◌then◌else◌, IsTrue, IsSome, is_some, codes, arith}
 use Rattle.dfdl_scope.specs.Scoping.{Told, Value, Absent, Twice}
 use Rattle.dfdl_checks.proofs.Kept.{keeps-all}
 use Rattle.dfdl_checks.specs.Calculations.{is_given, written_told}

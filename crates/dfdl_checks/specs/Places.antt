@@ -1,5 +1,5 @@
 -- What is known of where a component stands.
-use Rattle.std.specs.Prelude.{Bool, false, ◌||◌}
+use Rattle.std.specs.Prelude.{false, ◌||◌}
 use Rattle.dfdl_checks.specs.declared.subject.Standing.{Standing}
 
 -- in no group that asks anything of it

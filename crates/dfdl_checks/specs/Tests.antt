@@ -1,6 +1,6 @@
 -- The asserts and discriminators of components ('DFDL Schema Component Model', on asserts and discriminators), which are built for
 -- parsing.
-use Rattle.std.specs.Prelude.{ℕ, List, [], ◌∷◌, ◌++◌, Bool, true, false, not, nat_lt, length, ◌&&◌, ◌||◌, Option, Some, None, is_some, codes, if◌then◌else◌}
+use Rattle.std.specs.Prelude.{ℕ, List, [], ◌∷◌, ◌++◌, Bool, false, not, nat_lt, length, ◌&&◌, ◌||◌, Option, Some, None, is_some, codes, if◌then◌else◌}
 use Rattle.std.specs.List.{flat_map, list_any}
 use Rattle.std.specs.Str.{bytes_eq}
 use Rattle.dfdl_forms.specs.declared.encoding.Encoding.{Encoding}

@@ -14,7 +14,7 @@ use Rattle.dfdl_checks.specs.declared.subject.Kind.TheVariants as kind
 use Rattle.dfdl_chains.specs.Everywhere.{all_sites}
 use Rattle.dfdl_chains.specs.Kinds.{kind_at}
 use Rattle.dfdl_chains.specs.Parts.{is_component}
-use Rattle.dfdl_breaches.specs.Judging.{built_checks_at, built_settings_at, built_tests_at, calculation_at, count_at, form_of_prefix, hidden_at, is_parsed_at, judgement_at, measure_at}
+use Rattle.dfdl_breaches.specs.Judging.{built_checks_at, built_settings_at, built_tests_at, calculation_at, count_at, form_of_prefix, hidden_at, judgement_at, measure_at}
 use Rattle.dfdl_breaches.specs.declared.judgement.Judgement.{Judgement}
 use Rattle.dfdl_terms.specs.declared.statement.PatternTest.{PatternTest}
 use Rattle.dfdl_terms.specs.declared.prefix.Measure.{Measure}

@@ -1,5 +1,5 @@
 -- What rows and their statements come to.
-use Rattle.std.proofs.Common.{◌≡◌, ℕ, ◌+◌, ◌≤◌, List, [], ◌∷◌, length, map, Bool, Option, Some, None, Result, Ok, Err, IfOk, IfErr, ap, sym, subst, ◌∙◌, refl, arith}
+use Rattle.std.proofs.Common.{◌≡◌, ℕ, ◌+◌, ◌≤◌, List, [], ◌∷◌, map, Bool, Option, Some, None, Result, Ok, Err, IfOk, IfErr, ap, sym, subst, ◌∙◌, refl}
 use Rattle.dfdl_documents.specs.Documents.{SchemaDocument}
 use Rattle.dfdl_components.specs.declared.site.Site.{Site}
 use Rattle.dfdl_expression_tree.specs.Trees.{Formula}
@@ -27,7 +27,7 @@ use Rattle.dfdl_compile.specs.Compiled.{CompileEnd, Laid, Told, laid, told_of}
 use Rattle.dfdl_compile.specs.Components.{delimiters_of, primitives_of}
 use Rattle.dfdl_compile.specs.Faults.{IsEndFault, IsFaultOf, IsSettledFault}
 use Rattle.dfdl_compile.specs.FaultsShown.{statement_fault}
-use Rattle.dfdl_compile.specs.Settling.{Ends, EndsWith, Maps, Sees, Settles, SettlesTo, end_with, table_with}
+use Rattle.dfdl_compile.specs.Settling.{Ends, EndsWith, Sees, Settles, end_with, table_with}
 use Rattle.dfdl_compile.specs.Shown.{told_shown}
 use Rattle.dfdl_compile.specs.Statements.{noted_of}
 use Rattle.dfdl_compile.specs.declared.compiling.ToldLists.{ToldLists}

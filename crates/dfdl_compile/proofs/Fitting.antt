@@ -1,5 +1,5 @@
 -- The components of documents are those of one schema.
-use Rattle.std.proofs.Common.{◌≡◌, ℕ, zero, suc, ◌+◌, ◌<◌, ◌≤◌, List, [], ◌∷◌, ◌++◌, length, map, take, drop, get_or, slice_get, All, Bool, false, nat_lt, Option, Some, None, IfSome, option_map, ap, sym, subst, ◌∙◌, refl, arith, append_assoc, drop-cons, length-append}
+use Rattle.std.proofs.Common.{◌≡◌, ℕ, zero, suc, ◌+◌, ◌<◌, ◌≤◌, List, [], ◌∷◌, ◌++◌, length, map, drop, get_or, slice_get, All, Bool, false, nat_lt, Option, Some, None, IfSome, option_map, ap, sym, subst, ◌∙◌, refl, arith, append_assoc, drop-cons}
 use Rattle.std.proofs.lemmas.List.Sums.{sum_by_more}
 use Rattle.std.proofs.lemmas.List.{append-nil, get_or-map}
 use Rattle.std.proofs.lemmas.List.{length-map}

@@ -1,6 +1,6 @@
 -- The statements of the documents as they are written.
 use Rattle.std.proofs.Common.{◌≡◌, ℕ, ◌+◌, ◌<◌, List, [], ◌∷◌, ◌++◌, length, length-append, map, take, get_or, slice_get, All, Option, Some, None, option_map, ap, sym, subst, ◌∙◌, refl, arith}
-use Rattle.std.specs.List.{flat_map, sum_by}
+use Rattle.std.specs.List.{flat_map}
 use Rattle.std.proofs.lemmas.List.{length-map, take-map}
 use Rattle.std.proofs.lemmas.List.Concat.{get_or-flat_map}
 use Rattle.std.proofs.lemmas.List.Folds.{length-flat_map-take}
@@ -15,7 +15,6 @@ use Rattle.dfdl_chains.proofs.Numbering.{length_all, number_below}
 use Rattle.dfdl_breaches.proofs.Numbering.{at-number}
 use Rattle.std.proofs.Common.{Bool, true, false}
 use Rattle.std.proofs.lemmas.List.Elements.{All-nil}
-use Rattle.dfdl_checks.specs.declared.expression_tests.CheckForm.{CheckForm}
 use Rattle.dfdl_checks.specs.declared.measures.MeasureForm.{MeasureForm}
 use Rattle.dfdl_checks.specs.declared.purpose.Purpose.{Purpose}
 use Rattle.dfdl_chains.specs.Everywhere.{all_sites, for_each}
@@ -24,8 +23,6 @@ use Rattle.dfdl_chains.specs.Settings.{IsSetterOf}
 use Rattle.dfdl_breaches.specs.Judging.{IsCheckOf, built_checks_at, built_settings_at, judgement_at}
 use Rattle.dfdl_breaches.specs.Elements.{place_of}
 use Rattle.dfdl_breaches.specs.declared.judgement.Judgement.{Judgement}
-use Rattle.dfdl_variables.specs.Variables.{variables_of}
-use Rattle.dfdl_variables.specs.declared.variable.Declared.{Declared}
 use Rattle.dfdl_statements.specs.declared.written.Asked.TheVariants as asked
 use Rattle.dfdl_written.specs.Noting.{length_text, noted_by, noted_calculation, noted_check, noted_each, noted_expressions, noted_from, noted_if, noted_parts, noted_question, noted_questions, noted_setting, noted_test, stated_by}
 use Rattle.dfdl_written.specs.declared.noted.Noted.{Noted}

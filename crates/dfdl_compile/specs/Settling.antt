@@ -19,7 +19,7 @@ use Rattle.dfdl_statements.specs.declared.written.Written.{Written}
 use Rattle.dfdl_variables.specs.Variables.{variables_of}
 use Rattle.dfdl_written.specs.Noting.{AreAsNoted}
 use Rattle.dfdl_written.specs.Variables.{HasVariables}
-use Rattle.dfdl_compile.specs.Compiled.{CompileEnd, Laid, Limit, Refused, compiled}
+use Rattle.dfdl_compile.specs.Compiled.{CompileEnd, Laid, Refused, compiled}
 
 -- what expressions may name: the elements of rows with the numbers of their names, and the variables of the documents
 pub record Sees (documents : List SchemaDocument) (rows : List Row) (sight : Sight) : Type 0 where

@@ -58,7 +58,7 @@ use Rattle.dfdl_text_string.specs.Truths.{truth_of}
 use Rattle.dfdl_texts.proofs.Whole.{text-scalars}
 use Rattle.dfdl_region.specs.declared.node.Node.{Node}
 use Rattle.dfdl_region.specs.declared.node.Content.{Content}
-use Rattle.dfdl_region.specs.declared.node.Content.TheVariants.{Begun, Complex, Signed, Unsigned, Decimal}
+use Rattle.dfdl_region.specs.declared.node.Content.TheVariants.{Begun, Complex}
 use Rattle.dfdl_region.specs.declared.node.Content.TheVariants as content
 use Rattle.dfdl_region.specs.Bytes.{utf8_of}
 use Rattle.dfdl_region.specs.Nodes.{with_content}
@@ -72,7 +72,7 @@ use Rattle.dfdl_grammar.specs.declared.end.End.TheVariants.{Done, Failed, Stoppe
 use Rattle.dfdl_grammar.specs.declared.end.Halt.TheVariants.{Limit}
 use Rattle.dfdl_grammar.specs.declared.instead.Instead.{Instead}
 use Rattle.dfdl_grammar.specs.declared.mark.Mark.{Mark}
-use Rattle.dfdl_grammar.specs.declared.instead.Instead.TheVariants.{Nothing, Nil as InsteadNil, Empty, Tried}
+use Rattle.dfdl_grammar.specs.declared.instead.Instead.TheVariants.{Nothing, Nil as InsteadNil, Empty}
 use Rattle.dfdl_grammar.specs.States.{Input, State, anchor, anchor_at}
 use Rattle.dfdl_grammar.specs.Documents.{front_at}
 use Rattle.dfdl_grammar.specs.Outcomes.{Outcome, ended, follow, spend, then_do}
@@ -80,7 +80,7 @@ use Rattle.dfdl_grammar.specs.Leaves.{Find, Fails, Finds, FindsOctets, FindsText
 use Rattle.dfdl_grammar.specs.Delimited.{first_step, plain, scanned}
 use Rattle.dfdl_grammar.specs.Framing.{aligned, fill_to, has_byte, passed}
 use Rattle.dfdl_grammar.specs.Delimiters.{lists_of, markup, opens, scoped, unscoped}
-use Rattle.dfdl_grammar.specs.Boxes.{boxed, boxed_at, bytes_up_to, pass_bytes, past_byte, rest as rest_of, rest_from, unboxed}
+use Rattle.dfdl_grammar.specs.Boxes.{boxed, boxed_at, bytes_up_to, pass_bytes, past_byte, rest_from, unboxed}
 use Rattle.dfdl_grammar.specs.Spans.{filled, kept_to, span_ends, spanned, vacant, with_span}
 use Rattle.dfdl_grammar.specs.declared.span.Span.{Span}
 use Rattle.dfdl_grammar.specs.Choices.{choice}

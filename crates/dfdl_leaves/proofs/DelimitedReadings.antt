@@ -5,7 +5,6 @@ use Rattle.dfdl_value.specs.declared.value.Value.{Value}
 use Rattle.dfdl_looks.specs.Asks.{Answer, Reached, Told, and_then, ask}
 use Rattle.dfdl_looks.specs.Tallies.{nothing}
 use Rattle.dfdl_terms.specs.declared.text.ScanForm.{ScanForm}
-use Rattle.dfdl_terms.specs.declared.text.TextContent.{TextContent}
 use Rattle.dfdl_terms.specs.declared.text.TextForm.{TextForm}
 use Rattle.dfdl_delims.specs.Deciding.{goes_on}
 use Rattle.dfdl_delims.specs.Lists.{Opened}

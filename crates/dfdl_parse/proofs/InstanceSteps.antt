@@ -22,7 +22,7 @@ use Rattle.dfdl_parse.specs.declared.frame.Focus.TheVariants.{Enter}
 use Rattle.dfdl_parse.specs.Moves.{Machine}
 use Rattle.dfdl_parse.specs.Prefixed.{at_end}
 use Rattle.dfdl_parse.specs.Asking.{begins, row_begins}
-use Rattle.dfdl_parse.specs.Instances.{instance_begins, instanced_begins, opening_begins, start_begins}
+use Rattle.dfdl_parse.specs.Instances.{instanced_begins, opening_begins, start_begins}
 use Rattle.dfdl_parse.specs.Ahead.{ahead, finish}
 use Rattle.dfdl_parse.proofs.Finishes.{Does, finish-spend}
 

@@ -16,7 +16,7 @@ use Rattle.dfdl_parse.specs.declared.frame.Frame.{Frame}
 use Rattle.dfdl_parse.specs.declared.frame.Frame.TheVariants.{Rest, Element, Box, Spanning, Scope as ScopeFrame, Trial, Branch, Occurrence, Times, Before, Content, Closing, Aside, Concluding, Instance as InstanceFrame}
 use Rattle.dfdl_parse.specs.declared.frame.Focus.{Focus}
 use Rattle.dfdl_parse.specs.declared.frame.Focus.TheVariants.{Enter, Pass, PassRest, Sized, Seek, LookIn, LookBehind, Count, Leave}
-use Rattle.dfdl_parse.specs.Opens.{AreNested, AreOpen, AreSuch, ComesBackIn, GoesBack, Holds, IsBefore, IsContent, Lie, NeedsBehind, NeedsFrom, before_at, first_at, outside_before, outside_slot, points_of, slot_at}
+use Rattle.dfdl_parse.specs.Opens.{AreNested, AreOpen, AreSuch, ComesBackIn, GoesBack, Holds, IsBefore, Lie, NeedsBehind, NeedsFrom, before_at, first_at, outside_before, outside_slot, points_of, slot_at}
 
 -- the outermost of some marks
 held-last : (marks : List Mark) (last : Mark) (bit : ℕ) → held_from (marks ++ last ∷ []) bit ≡ cond last.is_resolved (held_from marks bit) last.at

@@ -1,5 +1,5 @@
 -- A step of a choice, or of an occurrence that is tried, does a part of what is ahead, and doesn't wait.
-use Rattle.std.proofs.Common.{◌≡◌, ℕ, zero, suc, ◌+◌, ◌-◌, ◌<◌, nat_eq, refl, List, ◌∷◌, drop, Bool, true, false, cond, Option, Some, None, All, ap, sym, subst, ◌∙◌, arith}
+use Rattle.std.proofs.Common.{◌≡◌, ℕ, zero, suc, ◌+◌, ◌-◌, ◌<◌, nat_eq, List, ◌∷◌, drop, Bool, true, false, cond, Option, Some, None, All, ap, sym, subst, ◌∙◌, arith}
 use Rattle.std.proofs.lemmas.Bool.Decides.{nat_tests}
 use Rattle.std.specs.Prelude.{slice_get}
 use Rattle.dfdl_bits.specs.Window.{Held}

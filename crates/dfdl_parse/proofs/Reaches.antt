@@ -1,5 +1,5 @@
 -- A step gives up no byte behind those that it has looked at, and comes to no bit behind them.
-use Rattle.std.proofs.Common.{◌≡◌, ℕ, ◌+◌, ◌-◌, ◌*◌, ◌/◌, ◌<◌, ◌≤◌, ◌⊎◌, inl, inr, max, min, nat_eq, nat_le, nat_lt, ◌&&◌, refl, List, [], ◌∷◌, length, Bool, true, false, cond, leb, Option, Some, None, ap, sym, subst, ◌∙◌, arith, replicate}
+use Rattle.std.proofs.Common.{◌≡◌, ℕ, ◌+◌, ◌-◌, ◌*◌, ◌/◌, ◌<◌, ◌≤◌, ◌⊎◌, inl, inr, max, min, nat_eq, nat_le, nat_lt, ◌&&◌, refl, List, [], ◌∷◌, length, Bool, true, false, cond, leb, Option, Some, None, ap, ◌∙◌, arith, replicate}
 use Rattle.std.specs.Prelude.{slice_get}
 use Rattle.std.proofs.lemmas.Bool.Decides.{nat_tests}
 use Rattle.dfdl_bits.specs.Window.{Held, end_of, from_byte, seen_at}

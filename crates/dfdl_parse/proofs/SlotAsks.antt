@@ -3,7 +3,6 @@ use Rattle.std.proofs.Common.{◌≡◌, ℕ, zero, suc, ◌+◌, ◌-◌, ◌*�
 use Rattle.dfdl_bits.specs.Window.{Held, end_of, from_byte, room_of, seen_at}
 use Rattle.dfdl_report.specs.declared.cause.LimitCause.TheVariants.{Window}
 use Rattle.dfdl_delims.specs.Lists.{Opened}
-use Rattle.dfdl_delims.specs.Longest.{Longest}
 use Rattle.dfdl_terms.specs.Rows.{Table}
 use Rattle.dfdl_looks.specs.Looks.{Agrees, seen_in}
 use Rattle.dfdl_looks.specs.Asks.{Ask, Answer, AsksFrom, and_then, Reached, Told, TooFar, Missing, Reading, ask, look_at}
@@ -17,11 +16,10 @@ use Rattle.dfdl_grammar.specs.declared.end.Halt.TheVariants.{Limit}
 use Rattle.dfdl_grammar.specs.States.{Input, State, anchor}
 use Rattle.dfdl_grammar.specs.Outcomes.{Outcome, ended, spend}
 use Rattle.dfdl_grammar.specs.Delimiters.{sought_among}
-use Rattle.dfdl_grammar.specs.Framing.{aligned}
 use Rattle.dfdl_grammar.specs.Slots.{is_empty_at, is_found, is_found_at, markup_follows, peek, separator_follows, told}
 use Rattle.dfdl_parse.specs.declared.frame.Frame.{Frame}
 use Rattle.dfdl_parse.specs.declared.frame.Focus.{Focus}
-use Rattle.dfdl_parse.specs.Moves.{Machine, Move}
+use Rattle.dfdl_parse.specs.Moves.{Move}
 use Rattle.dfdl_parse.specs.Running.{Slid}
 use Rattle.dfdl_parse.specs.Slots.{told_move}
 use Rattle.dfdl_parse.specs.Ahead.{finish}

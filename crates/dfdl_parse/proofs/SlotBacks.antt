@@ -1,9 +1,7 @@
 -- What waits in a slot leaves the bytes that are needed.
-use Rattle.std.proofs.Common.{◌≡◌, ◌⊎◌, inl, inr, ℕ, ◌+◌, ◌-◌, ◌*◌, ◌/◌, ◌≤◌, nat_lt, refl, ap, sym, subst, ◌∙◌, List, [], ◌∷◌, drop, map, Bool, true, false, cond, Option, Some, None, arith}
-use Rattle.std.proofs.lemmas.Bool.Decides.{nat_tests}
+use Rattle.std.proofs.Common.{◌≡◌, ◌⊎◌, inl, inr, ℕ, ◌+◌, ◌-◌, ◌*◌, ◌/◌, ◌≤◌, refl, ap, sym, subst, ◌∙◌, List, [], ◌∷◌, drop, map, Bool, true, false, cond, None, arith}
 use Rattle.dfdl_bits.specs.Window.{Held}
-use Rattle.dfdl_report.specs.declared.cause.ParseCause.{ParseCause}
-use Rattle.dfdl_separators.specs.declared.course.Known.TheVariants.{Begins, Occurred, Closed}
+use Rattle.dfdl_separators.specs.declared.course.Known.TheVariants.{Occurred}
 use Rattle.dfdl_separators.specs.declared.moves.SlotMove.{SlotMove}
 use Rattle.dfdl_separators.specs.declared.moves.SlotMove.TheVariants.{TakeSeparator, LookForSeparator, Parse, Keep, Drop, EndArray, EndGroup, Fail}
 use Rattle.dfdl_separators.specs.declared.moves.SlotSeen.TheVariants as seen
@@ -29,12 +27,11 @@ use Rattle.dfdl_parse.specs.declared.frame.Frame.{Frame}
 use Rattle.dfdl_parse.specs.declared.frame.Frame.TheVariants.{Closing}
 use Rattle.dfdl_parse.specs.declared.frame.Focus.TheVariants.{LookBehind}
 use Rattle.dfdl_parse.specs.declared.frame.SlotPlace.{SlotPlace}
-use Rattle.dfdl_parse.specs.Moves.{Move}
-use Rattle.dfdl_parse.specs.Opens.{AreNested, AreOpen, AreSuch, IsAsking, IsClosing, IsContent, Lie, NeedsBehind, NeedsFrom, first_at, outside_slot, points_of, slot_at, slot_points}
-use Rattle.dfdl_parse.specs.Slots.{cause_of, content_ended, decide, decided}
+use Rattle.dfdl_parse.specs.Opens.{AreNested, AreOpen, AreSuch, IsContent, Lie, NeedsBehind, NeedsFrom, first_at, outside_slot, points_of, slot_at, slot_points}
+use Rattle.dfdl_parse.specs.Slots.{cause_of, content_ended, decide}
 use Rattle.dfdl_parse.proofs.Opens.{lie-later, nested-later, slot-later}
 use Rattle.dfdl_parse.proofs.SlotLows.{IsLow, first-le, goes-low}
-use Rattle.dfdl_parse.proofs.SlotVerdicts.{IsStuck, Says, StaysOrOpen, blank-of, occurred-says, stuck-of}
+use Rattle.dfdl_parse.proofs.SlotVerdicts.{Says, StaysOrOpen, blank-of, occurred-says, stuck-of}
 
 -- the first of some marks is closed
 such-closed : (point : Bool) (points : List Bool) (base at : ℕ) (marks : List Mark) → AreSuch (point ∷ points) base at marks → AreSuch points base at (outer_marks marks)

@@ -1,5 +1,5 @@
 -- The begin of a slot, and the questions of it, leave the bytes that are needed.
-use Rattle.std.proofs.Common.{◌≡◌, ◌⊎◌, inl, inr, ℕ, ◌+◌, ◌-◌, ◌*◌, ◌/◌, ◌≤◌, ◌&&◌, ◌||◌, refl, ap, sym, subst, ◌∙◌, List, [], ◌∷◌, length, map, Bool, true, false, cond, Option, Some, None, arith}
+use Rattle.std.proofs.Common.{◌≡◌, ◌⊎◌, inl, ℕ, ◌+◌, ◌-◌, ◌*◌, ◌/◌, ◌≤◌, ◌&&◌, ◌||◌, refl, ap, sym, subst, ◌∙◌, List, [], ◌∷◌, length, Bool, true, false, cond, arith}
 use Rattle.dfdl_bits.specs.Window.{Held, from_byte, seen_at}
 use Rattle.dfdl_report.specs.declared.cause.ParseCause.{ParseCause}
 use Rattle.dfdl_separators.specs.declared.moves.SlotSeen.TheVariants as seen
@@ -9,13 +9,13 @@ use Rattle.dfdl_separators.specs.declared.verdict.Here.{Here}
 use Rattle.dfdl_separators.specs.declared.verdict.SlotRule.{SlotRule}
 use Rattle.dfdl_separators.specs.declared.verdict.SlotRule.TheVariants.{Required, NeverMissing, TrailingMissing, AnyMissing}
 use Rattle.dfdl_separators.specs.Groups.{group_after, here_of, move_at}
-use Rattle.dfdl_separators.specs.Verdicts.{begins, by_tried, ends, missing}
+use Rattle.dfdl_separators.specs.Verdicts.{begins, ends, missing}
 use Rattle.dfdl_terms.specs.declared.delimiters.Delimiters.{Delimiters}
 use Rattle.dfdl_terms.specs.declared.slots.Slot.{Slot}
 use Rattle.dfdl_looks.specs.Asks.{Reached, Told, TooFar, Missing, ask}
 use Rattle.dfdl_looks.specs.Tallies.{Tally, needs_from, nothing}
 use Rattle.dfdl_grammar.specs.declared.end.End.{End}
-use Rattle.dfdl_grammar.specs.declared.end.End.TheVariants.{Done, Failed, Stopped}
+use Rattle.dfdl_grammar.specs.declared.end.End.TheVariants.{Done, Failed}
 use Rattle.dfdl_grammar.specs.declared.limits.Limits.{Limits}
 use Rattle.dfdl_grammar.specs.States.{State, anchor}
 use Rattle.dfdl_grammar.specs.Delimiters.{lists_of, markup}
@@ -25,7 +25,7 @@ use Rattle.dfdl_grammar.specs.Slots.{closed_slot, has_mark, is_empty_at, is_take
 use Rattle.dfdl_parse.specs.declared.frame.Frame.{Frame}
 use Rattle.dfdl_parse.specs.declared.frame.Frame.TheVariants.{Before, Content}
 use Rattle.dfdl_parse.specs.declared.frame.Focus.{Focus}
-use Rattle.dfdl_parse.specs.declared.frame.Focus.TheVariants.{Enter, LookIn, LookBehind, Leave}
+use Rattle.dfdl_parse.specs.declared.frame.Focus.TheVariants.{Enter, LookIn, LookBehind}
 use Rattle.dfdl_parse.specs.declared.frame.SlotPlace.{SlotPlace}
 use Rattle.dfdl_parse.specs.Moves.{Move, pass}
 use Rattle.dfdl_parse.specs.Opens.{AreOpen, AreSuch, IsAsking, IsContent, Lie, NeedsFrom, before_at, before_points, first_at, outside_before, outside_slot, points_of, slot_at, slot_points}
@@ -34,7 +34,7 @@ use Rattle.dfdl_parse.proofs.Finishes.{Anchored}
 use Rattle.dfdl_parse.proofs.Opens.{nested-risen}
 use Rattle.dfdl_parse.proofs.SlotLows.{IsLow, first-le, goes-low, opened-low}
 use Rattle.dfdl_parse.proofs.SlotBacks.{HasSlot, back-at, back-has, close-low, marked-low, point-behind, taken-tried}
-use Rattle.dfdl_parse.proofs.SlotCloses.{or-second, settled-low}
+use Rattle.dfdl_parse.proofs.SlotCloses.{settled-low}
 
 -- the marks that are open while the separator is sought that a slot begins with
 pub record HasBefore (base : ℕ) (k : List Frame) (here : Here) (t : State) : Type 0 where

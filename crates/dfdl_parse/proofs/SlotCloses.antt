@@ -1,25 +1,24 @@
 -- What waits for the separators of a slot, or for a question of it, leaves the bytes that are needed.
-use Rattle.std.proofs.Common.{◌≡◌, ◌⊎◌, inl, inr, ℕ, ◌+◌, ◌-◌, ◌*◌, ◌/◌, ◌≤◌, ◌&&◌, ◌||◌, refl, ap, sym, subst, ◌∙◌, List, [], ◌∷◌, map, Bool, true, false, cond, Option, Some, None, arith}
-use Rattle.dfdl_bits.specs.Window.{Held, from_byte}
+use Rattle.std.proofs.Common.{◌≡◌, ◌⊎◌, inl, inr, ℕ, ◌+◌, ◌-◌, ◌*◌, ◌/◌, ◌≤◌, ◌&&◌, ◌||◌, refl, ap, sym, subst, ◌∙◌, List, [], ◌∷◌, Bool, true, false, cond, None}
+use Rattle.dfdl_bits.specs.Window.{Held}
 use Rattle.dfdl_report.specs.declared.cause.ParseCause.{ParseCause}
-use Rattle.dfdl_separators.specs.declared.course.Known.TheVariants.{Begins, Closed}
+use Rattle.dfdl_separators.specs.declared.course.Known.TheVariants.{Closed}
 use Rattle.dfdl_separators.specs.declared.moves.SlotMove.{SlotMove}
 use Rattle.dfdl_separators.specs.declared.moves.SlotMove.TheVariants.{TakeSeparator, LookForSeparator, Parse, Keep, Drop, EndArray, EndGroup, Fail}
 use Rattle.dfdl_separators.specs.declared.moves.SlotSeen.TheVariants as seen
 use Rattle.dfdl_separators.specs.declared.progress.Progress.{Progress}
 use Rattle.dfdl_separators.specs.declared.progress.Stage.TheVariants as stages
 use Rattle.dfdl_separators.specs.declared.verdict.Here.{Here}
-use Rattle.dfdl_separators.specs.declared.verdict.SlotRule.{SlotRule}
 use Rattle.dfdl_separators.specs.declared.verdict.Tried.{Tried}
 use Rattle.dfdl_separators.specs.Groups.{group_after, here_of, move_at, moved_by}
 use Rattle.dfdl_separators.specs.Verdicts.{begins, by_tried, ends, outcome_of}
 use Rattle.dfdl_terms.specs.declared.slots.Slot.{Slot}
 use Rattle.dfdl_looks.specs.Tallies.{Tally, nothing}
 use Rattle.dfdl_grammar.specs.declared.end.End.{End}
-use Rattle.dfdl_grammar.specs.declared.end.End.TheVariants.{Done, Failed, Stopped}
+use Rattle.dfdl_grammar.specs.declared.end.End.TheVariants.{Done, Failed}
 use Rattle.dfdl_grammar.specs.States.{State}
 use Rattle.dfdl_grammar.specs.Marks.{back}
-use Rattle.dfdl_grammar.specs.Slots.{closed_slot, has_mark, is_taken_back, is_tried, opens_before, taken_back}
+use Rattle.dfdl_grammar.specs.Slots.{closed_slot, is_taken_back, opens_before, taken_back}
 use Rattle.dfdl_parse.specs.declared.frame.Frame.{Frame}
 use Rattle.dfdl_parse.specs.declared.frame.SlotPlace.{SlotPlace}
 use Rattle.dfdl_parse.specs.Opens.{IsClosing}

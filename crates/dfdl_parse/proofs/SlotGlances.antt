@@ -1,13 +1,13 @@
 -- What the code has found is what the questions of slots come to.
-use Rattle.std.proofs.Common.{◌≡◌, ℕ, ◌+◌, ◌-◌, ◌/◌, ◌&&◌, max, nat_eq, nat_le, nat_lt, refl, List, Bool, true, false, cond, Option, Some, None, ap, sym, subst, ◌∙◌, arith}
+use Rattle.std.proofs.Common.{◌≡◌, ℕ, ◌+◌, ◌-◌, ◌/◌, ◌&&◌, max, nat_le, refl, List, Bool, true, false, cond, Option, Some, None, ap, sym, subst, ◌∙◌, arith}
 use Rattle.dfdl_bits.specs.declared.window.Seen.{Seen}
 use Rattle.dfdl_bits.specs.declared.window.Seen.TheVariants.{Byte, End as DataEnded, NotYet as NotSeen, Over}
 use Rattle.dfdl_delims.specs.declared.found.Found.{Found}
 use Rattle.dfdl_delims.specs.declared.found.Found.TheVariants.{Match, None as NoMatch, NotYet as NotFound, Over as Past}
 use Rattle.dfdl_delims.specs.declared.found.Glance.{Glance}
 use Rattle.dfdl_delims.specs.Lists.{Opened}
-use Rattle.dfdl_delims.specs.Longest.{Answers as Glances, Longest, Text, NoText, found_shown}
-use Rattle.dfdl_looks.specs.Asks.{Ask, Answer, Look, Reached, Told as Tells, TooFar, Missing, Reading, and_then, ask, go_on, look_at}
+use Rattle.dfdl_delims.specs.Longest.{Answers as Glances, Longest, found_shown}
+use Rattle.dfdl_looks.specs.Asks.{Ask, Answer, Look, Reached, Reading, and_then, ask, go_on, look_at}
 use Rattle.dfdl_looks.specs.Tallies.{Tally, nothing, saw_byte, saw_end}
 use Rattle.dfdl_looks.proofs.Resumed.{on_seen}
 use Rattle.dfdl_looks.proofs.Sequels.{ask-then}

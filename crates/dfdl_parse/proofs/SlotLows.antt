@@ -1,11 +1,10 @@
 -- What comes next in a sequence finds the bytes that it needs.
-use Rattle.std.proofs.Common.{◌≡◌, ℕ, ◌+◌, ◌-◌, ◌*◌, ◌/◌, ◌≤◌, ◌&&◌, nat_eq, refl, ap, sym, subst, ◌∙◌, List, [], ◌∷◌, map, Bool, true, false, cond, Option, Some, None, Result, Ok, Err, arith}
+use Rattle.std.proofs.Common.{◌≡◌, ℕ, ◌+◌, ◌-◌, ◌*◌, ◌/◌, ◌≤◌, ◌&&◌, nat_eq, refl, ap, sym, subst, ◌∙◌, List, [], ◌∷◌, Bool, true, false, cond, Option, Some, None, Result, Ok, Err, arith}
 use Rattle.dfdl_bits.specs.Window.{Held}
-use Rattle.dfdl_report.specs.declared.cause.ParseCause.TheVariants.{SeparatorMissing}
 use Rattle.dfdl_paths.specs.declared.place.Start.TheVariants as start
 use Rattle.dfdl_separators.specs.declared.course.Known.TheVariants.{Begun}
 use Rattle.dfdl_separators.specs.declared.moves.SlotMove.{SlotMove}
-use Rattle.dfdl_separators.specs.declared.moves.SlotMove.TheVariants.{TakeSeparator, LookForSeparator, Parse, Keep, Drop, EndArray, EndGroup, Fail}
+use Rattle.dfdl_separators.specs.declared.moves.SlotMove.TheVariants.{TakeSeparator, Parse, Fail}
 use Rattle.dfdl_separators.specs.declared.moves.SlotSeen.TheVariants as seen
 use Rattle.dfdl_separators.specs.declared.policy.SeparatorPosition.{SeparatorPosition}
 use Rattle.dfdl_separators.specs.declared.policy.SeparatorSuppressionPolicy.{SeparatorSuppressionPolicy}
@@ -20,7 +19,6 @@ use Rattle.dfdl_separators.specs.Verdicts.{begins, is_past, missing, rule_of}
 use Rattle.dfdl_terms.specs.declared.slots.Slot.{Slot}
 use Rattle.dfdl_terms.specs.Rows.{Table}
 use Rattle.dfdl_looks.specs.Tallies.{Tally, nothing, one_row}
-use Rattle.dfdl_grammar.specs.declared.end.End.TheVariants.{Done, Failed}
 use Rattle.dfdl_grammar.specs.declared.mark.Mark.{Mark}
 use Rattle.dfdl_grammar.specs.States.{State}
 use Rattle.dfdl_grammar.specs.Framing.{aligned}
@@ -32,12 +30,12 @@ use Rattle.dfdl_parse.specs.declared.frame.Coming.{Coming}
 use Rattle.dfdl_parse.specs.declared.frame.Coming.TheVariants.{Past, Seeks, Parses, Counts, Aside, Lacks, Over}
 use Rattle.dfdl_parse.specs.declared.frame.Frame.{Frame}
 use Rattle.dfdl_parse.specs.declared.frame.Frame.TheVariants.{Before, Content}
-use Rattle.dfdl_parse.specs.declared.frame.Focus.TheVariants.{Enter, LookIn, Leave}
+use Rattle.dfdl_parse.specs.declared.frame.Focus.TheVariants.{Enter, LookIn}
 use Rattle.dfdl_parse.specs.declared.frame.SlotPlace.{SlotPlace}
 use Rattle.dfdl_parse.specs.Asking.{behind_question, count_told, given_by}
 use Rattle.dfdl_parse.specs.Moves.{Move, pass}
 use Rattle.dfdl_parse.specs.Opens.{AreNested, AreOpen, AreSuch, IsContent, Lie, NeedsFrom, before_at, before_points, first_at, outside_before, outside_slot, points_of, slot_at, slot_points}
-use Rattle.dfdl_parse.specs.Slots.{begins_by, coming_from, comes, content_begins, count_slots, counted_slots, enter_separated, first_here, first_in, first_of, first_row, first_told, goes_beside, goes_on, opened_at, or_next, sequence_ends, then_tried}
+use Rattle.dfdl_parse.specs.Slots.{begins_by, coming_from, comes, count_slots, counted_slots, enter_separated, first_here, first_in, first_of, first_row, first_told, goes_beside, goes_on, opened_at, or_next, sequence_ends, then_tried}
 
 -- the bytes that are needed behind a step are held
 abbrev pub IsLow : Move → Type 0

@@ -1,10 +1,9 @@
 -- What the steps of slots make: each only passes on, at its cost; and what was spent before a slot ends was spent before what follows it.
-use Rattle.std.proofs.Common.{◌≡◌, ℕ, zero, suc, ◌+◌, ◌-◌, max, nat_lt, arith, refl, ap, sym, List, [], ◌∷◌, Bool, true, false, cond, Option, Some, None, Result, Ok, Err}
+use Rattle.std.proofs.Common.{◌≡◌, ℕ, zero, suc, ◌+◌, ◌-◌, nat_lt, arith, refl, ap, sym, List, [], ◌∷◌, Bool, true, false, cond, Option, Some, None, Result, Ok, Err}
 use Rattle.dfdl_bits.specs.Window.{Held}
 use Rattle.dfdl_report.specs.declared.cause.ParseCause.{ParseCause}
-use Rattle.dfdl_report.specs.declared.cause.ParseCause.TheVariants.{EmptyTrailingSlot}
 use Rattle.dfdl_separators.specs.declared.moves.SlotMove.{SlotMove}
-use Rattle.dfdl_separators.specs.declared.moves.SlotMove.TheVariants.{TakeSeparator, LookForSeparator, Parse, Keep, Drop, EndArray, EndGroup, Fail}
+use Rattle.dfdl_separators.specs.declared.moves.SlotMove.TheVariants.{TakeSeparator, LookForSeparator, Keep, Drop, EndArray, Fail}
 use Rattle.dfdl_separators.specs.declared.moves.SlotSeen.TheVariants as seen
 use Rattle.dfdl_separators.specs.declared.policy.SeparatorPosition.{SeparatorPosition}
 use Rattle.dfdl_separators.specs.declared.policy.SeparatorSuppressionPolicy.{SeparatorSuppressionPolicy}
@@ -30,11 +29,11 @@ use Rattle.dfdl_parse.specs.declared.frame.Coming.TheVariants.{Past, Seeks, Pars
 use Rattle.dfdl_parse.specs.declared.frame.Frame.{Frame}
 use Rattle.dfdl_parse.specs.declared.frame.Frame.TheVariants.{Content}
 use Rattle.dfdl_parse.specs.declared.frame.Focus.{Focus}
-use Rattle.dfdl_parse.specs.declared.frame.Focus.TheVariants.{Enter, LookIn, Leave}
+use Rattle.dfdl_parse.specs.declared.frame.Focus.TheVariants.{Enter, LookIn}
 use Rattle.dfdl_parse.specs.declared.frame.SlotPlace.{SlotPlace}
 use Rattle.dfdl_parse.specs.Asking.{behind_question, count_told, given_by}
 use Rattle.dfdl_parse.specs.Moves.{Move, pass}
-use Rattle.dfdl_parse.specs.Slots.{before_done, before_failed, closing_ended, coming_from, comes, content_begins, content_ended, count_slots, counted_slots, decide, decided, enter_separated, first_in, goes_beside, goes_on, occurs, sequence_ends, settle, settled, unslotted, unsought, without_separator}
+use Rattle.dfdl_parse.specs.Slots.{before_done, before_failed, closing_ended, coming_from, comes, content_begins, content_ended, count_slots, counted_slots, decide, enter_separated, first_in, goes_beside, goes_on, occurs, sequence_ends, settle, settled, unslotted, unsought, without_separator}
 use Rattle.dfdl_parse.specs.SlotsAhead.{before_slot, closing_slot, content_slot, course_of, outside, turn_of}
 
 -- a step that looks at nothing besides this cost, with these bytes held

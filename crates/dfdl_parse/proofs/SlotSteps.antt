@@ -1,5 +1,5 @@
 -- The steps of a sequence whose slots are tried do a part of what is ahead.
-use Rattle.std.proofs.Common.{◌≡◌, ℕ, zero, suc, ◌+◌, ◌-◌, ◌<◌, ◌&&◌, nat_eq, nat_lt, refl, List, [], ◌∷◌, drop, length, Bool, true, false, cond, Option, Some, None, Result, Ok, Err, ap, sym, subst, ◌∙◌, arith}
+use Rattle.std.proofs.Common.{◌≡◌, ℕ, zero, suc, ◌+◌, ◌-◌, ◌<◌, ◌&&◌, nat_eq, nat_lt, refl, List, [], ◌∷◌, length, Bool, true, false, cond, Option, Some, None, Result, Ok, Err, ap, sym, subst, ◌∙◌, arith}
 use Rattle.std.proofs.lemmas.Bool.Decides.{nat_tests}
 use Rattle.std.specs.Prelude.{slice_get}
 use Rattle.dfdl_bits.specs.Window.{Held, from_byte, seen_at}
@@ -19,10 +19,9 @@ use Rattle.dfdl_separators.specs.declared.verdict.SlotRule.{SlotRule}
 use Rattle.dfdl_separators.specs.declared.verdict.SlotRule.TheVariants.{Required}
 use Rattle.dfdl_separators.specs.Groups.{begun, ending, group_after, here_of, move_at}
 use Rattle.dfdl_separators.specs.Verdicts.{outcome, rule_of}
-use Rattle.dfdl_terms.specs.declared.row.Row.{Row}
 use Rattle.dfdl_terms.specs.declared.row.Row.TheVariants.{Separated}
 use Rattle.dfdl_terms.specs.declared.slots.Slot.{Slot}
-use Rattle.dfdl_terms.specs.Rows.{Table, Nests}
+use Rattle.dfdl_terms.specs.Rows.{Table}
 use Rattle.dfdl_delims.specs.Lists.{Opened}
 use Rattle.dfdl_looks.specs.Looks.{Agrees}
 use Rattle.dfdl_looks.specs.Asks.{Ask, ask}
@@ -38,25 +37,24 @@ use Rattle.dfdl_grammar.specs.Statements.{evaluated, with_reads}
 use Rattle.dfdl_grammar.specs.Delimiters.{lists_of, markup, separator}
 use Rattle.dfdl_grammar.specs.Rows.{below, meaning}
 use Rattle.dfdl_grammar.specs.Occurrences.{as_occurrence, occurring, untried}
-use Rattle.dfdl_grammar.specs.Slots.{Course, Sequence, Tail, Turn, ask_separator, begin, closed_slot, content, decide as decides, emptied, ended_by, has_mark, in_row, in_slots, is_blank, is_empty_at, is_tried, occur, opened_slot, opens_before, peek, separated, separator_follows, settle as settles, settled_by, taken_back, then_slots, times, told_row, untaken, without_separator as lacks}
+use Rattle.dfdl_grammar.specs.Slots.{Course, Sequence, Tail, Turn, begin, closed_slot, content, decide as decides, emptied, ended_by, has_mark, in_row, in_slots, is_blank, is_empty_at, is_tried, occur, opened_slot, opens_before, separated, separator_follows, settle as settles, settled_by, taken_back, then_slots, times, told_row, without_separator as lacks}
 use Rattle.dfdl_grammar.proofs.Spending.{spend-nothing, spend-spend}
 use Rattle.dfdl_grammar.proofs.Towers.{below-meaning}
 use Rattle.dfdl_parse.specs.declared.frame.Coming.{Coming}
 use Rattle.dfdl_parse.specs.declared.frame.Coming.TheVariants.{Past, Seeks, Parses, Counts, Aside, Lacks, Over}
 use Rattle.dfdl_parse.specs.declared.frame.Frame.{Frame}
-use Rattle.dfdl_parse.specs.declared.frame.Frame.TheVariants.{Before, Content, Closing, Aside as AsideFrame}
+use Rattle.dfdl_parse.specs.declared.frame.Frame.TheVariants.{Before, Content, Aside as AsideFrame}
 use Rattle.dfdl_parse.specs.declared.frame.Focus.TheVariants.{Enter, Seek, LookIn, LookBehind, Count, Leave}
 use Rattle.dfdl_parse.specs.declared.frame.SlotPlace.{SlotPlace}
 use Rattle.dfdl_parse.specs.declared.frame.Sought.TheVariants.{Separator}
 use Rattle.dfdl_parse.specs.Asking.{count_told, given_by, variables_behind}
-use Rattle.dfdl_parse.specs.Moves.{Machine, Move, pass}
-use Rattle.dfdl_parse.specs.Searches.{sought_text}
+use Rattle.dfdl_parse.specs.Moves.{Move, pass}
 use Rattle.dfdl_parse.specs.Slots.{Separation, before_done, before_failed, begins_by, closing_ended, coming_from, comes, content_begins, content_ended, count_slots, counted_slots, decide, enter_separated, first_here, first_in, first_of, first_row, first_told, goes_beside, goes_on, look_behind, look_in, occurs, opened_at, or_next, separation_at, separation_of, sequence_ends, settle, settled, slots_from, then_tried, unslotted, unsought, without_separator}
 use Rattle.dfdl_parse.specs.SlotsAhead.{asked_behind, asked_in, asked_slots, before_slot, beside_slots, closing_slot, content_slot, course_of, following, occur_in, sequence_of, turn_of}
 use Rattle.dfdl_parse.specs.Ahead.{ahead, finish}
 use Rattle.dfdl_parse.proofs.Finishes.{Anchored, Does, after_nothing, finish-spend}
 use Rattle.dfdl_parse.proofs.SlotAsks.{empty-from, peek-ahead, separator-from}
-use Rattle.dfdl_parse.proofs.SlotRows.{AreBelow, drop-next, slots-below}
+use Rattle.dfdl_parse.proofs.SlotRows.{AreBelow, drop-next}
 
 -- what comes next begins, or what follows where it is none
 abbrev comes_or : Tally → Held → Bool → List Frame → State → Coming → (Progress → Move) → Move

@@ -1,15 +1,14 @@
 -- What is known of a slot is taken.
-use Rattle.std.proofs.Common.{◌≡◌, ℕ, max, refl, ap, sym, subst, ◌∙◌, List, Bool, true, false, arith, Result, Ok, Err, OnOk}
+use Rattle.std.proofs.Common.{◌≡◌, ℕ, max, ap, sym, subst, ◌∙◌, List, Bool, false, arith, Result, Ok, Err, OnOk}
 use Rattle.dfdl_bits.specs.Window.{Held}
 use Rattle.dfdl_looks.specs.Asks.{Reached, Told as Tells, Reading}
-use Rattle.dfdl_looks.specs.Tallies.{Tally, needs_from, nothing, one_row}
+use Rattle.dfdl_looks.specs.Tallies.{needs_from, nothing, one_row}
 use Rattle.dfdl_grammar.specs.declared.limits.Limits.{Limits}
 use Rattle.dfdl_grammar.specs.States.{State}
 use Rattle.dfdl_parse.specs.declared.frame.Frame.{Frame}
 use Rattle.dfdl_parse.specs.declared.frame.Focus.{Focus}
 use Rattle.dfdl_parse.specs.declared.parser.Parser.{Parser}
 use Rattle.dfdl_parse.specs.declared.testing.Told.{Told}
-use Rattle.dfdl_parse.specs.declared.testing.Verdict.{Verdict}
 use Rattle.dfdl_parse.specs.declared.testing.Verdict.TheVariants.{Holds}
 use Rattle.dfdl_parse.specs.Testing.{verdict_shown}
 use Rattle.dfdl_parse.specs.Moves.{Machine, Move}

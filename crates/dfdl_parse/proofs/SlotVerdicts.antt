@@ -1,7 +1,7 @@
 -- What the moves of a slot say of its occurrence.
-use Rattle.std.proofs.Common.{◌≡◌, ◌⊎◌, inl, inr, ℕ, refl, ap, sym, subst, ◌∙◌, Bool, true, false, not, ◌&&◌, cond, Option, Some, None}
+use Rattle.std.proofs.Common.{◌≡◌, ◌⊎◌, inl, inr, refl, ap, sym, subst, ◌∙◌, Bool, true, false, not, ◌&&◌, cond, Option, Some, None}
 use Rattle.dfdl_report.specs.declared.cause.ParseCause.{ParseCause}
-use Rattle.dfdl_separators.specs.declared.course.Known.TheVariants.{Begun, Begins, Occurred, Closed}
+use Rattle.dfdl_separators.specs.declared.course.Known.TheVariants.{Occurred}
 use Rattle.dfdl_separators.specs.declared.moves.SlotMove.{SlotMove}
 use Rattle.dfdl_separators.specs.declared.moves.SlotMove.TheVariants.{TakeSeparator, LookForSeparator, Parse, Keep, Drop, EndArray, EndGroup, Fail}
 use Rattle.dfdl_separators.specs.declared.policy.SeparatorPosition.{SeparatorPosition}

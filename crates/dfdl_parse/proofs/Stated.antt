@@ -30,7 +30,7 @@ use Rattle.dfdl_grammar.specs.Leaves.{default_find, land}
 use Rattle.dfdl_grammar.specs.Marks.{resolved}
 use Rattle.dfdl_grammar.specs.Outcomes.{Outcome, ended, follow}
 use Rattle.dfdl_grammar.specs.States.{State}
-use Rattle.dfdl_grammar.specs.Statements.{around_at, calculated, evaluated, is_held, is_written, judged, reconsidered, reconsidered_from, set_by, set_to, stated, stated_from, told_at, variable_cause, with_end, with_reads}
+use Rattle.dfdl_grammar.specs.Statements.{around_at, calculated, evaluated, is_held, is_written, judged, reconsidered, reconsidered_from, set_by, set_to, stated, stated_from, told_at, variable_cause, with_reads}
 use Rattle.dfdl_grammar.specs.Tests.{false_test}
 use Rattle.dfdl_parse.specs.declared.frame.Frame.{Frame}
 use Rattle.dfdl_parse.specs.declared.frame.Frame.TheVariants.{Concluding}

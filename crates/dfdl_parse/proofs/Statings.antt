@@ -1,5 +1,5 @@
 -- What statements make of the parser.
-use Rattle.std.proofs.Common.{length, get_or, ltb, ◌≡◌, ℕ, suc, ◌+◌, ◌-◌, ◌<◌, ◌≤◌, max, refl, Bool, true, false, cond, Ok, List, [], ◌∷◌, Option, Some, ap, sym, subst, ◌∙◌, arith}
+use Rattle.std.proofs.Common.{length, get_or, ltb, ◌≡◌, ℕ, suc, ◌+◌, ◌-◌, ◌<◌, ◌≤◌, refl, Bool, true, false, cond, Ok, List, [], ◌∷◌, Option, Some, ap, sym, subst, ◌∙◌, arith}
 use Rattle.std.proofs.lemmas.Option.{slice_get-get_or}
 use Rattle.std.proofs.lemmas.Bool.Decides.{nat_tests}
 use Rattle.std.specs.Prelude.{slice_get}
@@ -26,14 +26,14 @@ use Rattle.dfdl_terms.specs.declared.statement.Statement.{Statement}
 use Rattle.dfdl_terms.specs.declared.statement.Statement.TheVariants.{Expression, Setting, Calculation}
 use Rattle.dfdl_terms.specs.declared.statement.Statements.{Statements}
 use Rattle.dfdl_terms.specs.Rows.{Table}
-use Rattle.dfdl_looks.specs.Tallies.{Tally, nothing}
+use Rattle.dfdl_looks.specs.Tallies.{Tally}
 use Rattle.dfdl_grammar.specs.declared.end.End.{End}
 use Rattle.dfdl_grammar.specs.declared.end.End.TheVariants.{Done, Failed, Stopped}
 use Rattle.dfdl_grammar.specs.declared.limits.Limits.{Limits}
 use Rattle.dfdl_grammar.specs.Outcomes.{Outcome, ended, follow, then_do}
 use Rattle.dfdl_grammar.specs.States.{State}
 use Rattle.dfdl_grammar.specs.Spans.{vacant}
-use Rattle.dfdl_grammar.specs.Statements.{around_at, calculated, evaluated, reconsidered, reconsidered_from, stated, stated_from, told_at, with_end, with_reads}
+use Rattle.dfdl_grammar.specs.Statements.{around_at, calculated, evaluated, reconsidered, reconsidered_from, stated, stated_from, told_at, with_reads}
 use Rattle.dfdl_parse.specs.declared.frame.Focus.{Focus}
 use Rattle.dfdl_parse.specs.declared.frame.Focus.TheVariants.{Leave}
 use Rattle.dfdl_parse.specs.declared.parser.Parser.{Parser}

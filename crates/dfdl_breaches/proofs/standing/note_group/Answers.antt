@@ -1,6 +1,6 @@
 use Rattle.std.proofs.Common.{◌∙◌, get_or}
 use Rattle.dfdl_checks.specs.Places.{nowhere}
-use Rattle.dfdl_breaches.proofs.Standings.{group_noted, none_asked}
+use Rattle.dfdl_breaches.proofs.Standings.{group_noted}
 use Rattle.dfdl_breaches.proofs.standing.note_group.Goals as goal
 
 pub returns-clause-noted : goal.returns-clause-noted

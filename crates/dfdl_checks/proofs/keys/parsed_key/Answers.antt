@@ -1,4 +1,4 @@
-use Rattle.std.proofs.Common.{◌≡◌, Bool, sym, ap, ◌∙◌, codes, ℕ, List, Option, None, if◌then◌else◌}
+use Rattle.std.proofs.Common.{◌≡◌, Bool, sym, ap, ◌∙◌, codes, List, None, if◌then◌else◌}
 use Rattle.dfdl_checks.specs.Calculations.{written_told}
 use Rattle.dfdl_checks.specs.JudgedShown.{judged_of}
 use Rattle.dfdl_checks.specs.Subjects.{told_at}

@@ -11,7 +11,7 @@ use Rattle.dfdl_written.specs.declared.noted.Noted.{Noted}
 use Rattle.dfdl_compile.specs.Compiled.{Laid, by_root, laid, told_of}
 use Rattle.dfdl_compile.specs.Primitives.{HasBareTypedLeaves, HasTypedLeaves}
 use Rattle.dfdl_compile.specs.Shown.{EndsWithElement, IsAsWritten, told_shown}
-use Rattle.dfdl_compile.proofs.Finishing.{all_end, all_faults, both, if_there, laid_is, rows_fault, told_is}
+use Rattle.dfdl_compile.proofs.Finishing.{all_end, all_faults, both, if_there, laid_is, told_is}
 use Rattle.dfdl_compile.proofs.Noted.{all_stated, noted_are}
 use Rattle.dfdl_compile.proofs.Taken.{bounded, lists_are, tables_are, wholes}
 use Rattle.dfdl_compile.proofs.Typed.{bare_typed, leaves_typed}

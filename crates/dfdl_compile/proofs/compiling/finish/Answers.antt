@@ -1,4 +1,4 @@
-use Rattle.std.proofs.Common.{rules, ◌∙◌, All, List, ap, length, map, refl, subst, sym}
+use Rattle.std.proofs.Common.{rules, ◌∙◌, All, List, ap, length, refl, subst, sym}
 use Rattle.std.specs.List.{AllZip}
 use Rattle.dfdl_terms.specs.Rows.{IsPrimitive, Table}
 use Rattle.dfdl_terms.specs.Tables.{Named}

@@ -1,7 +1,6 @@
-use Rattle.std.proofs.Common.{◌∙◌, All, List, ap, length, map, subst, sym}
+use Rattle.std.proofs.Common.{◌∙◌, All, List, ap, length, subst, sym}
 use Rattle.std.proofs.lemmas.List.{length-map}
 use Rattle.dfdl_components.specs.declared.site.Site.{Site}
-use Rattle.dfdl_breaches.specs.declared.judgement.Judgement.{Judgement}
 use Rattle.dfdl_written.specs.Noting.{StatesWithin, noted_each, stated_by}
 use Rattle.dfdl_written.specs.declared.noted.Stated.{Stated}
 use Rattle.dfdl_compile.specs.Shown.{IsStatedWithin}

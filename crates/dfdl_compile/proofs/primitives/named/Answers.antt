@@ -1,4 +1,4 @@
-use Rattle.std.proofs.Common.{All, List, subst, sym}
+use Rattle.std.proofs.Common.{All, List, subst}
 use Rattle.dfdl_terms.specs.declared.row.Primitive.{Primitive}
 use Rattle.dfdl_compile.specs.Primitives.{HasWrittenText}
 use Rattle.dfdl_compile.proofs.primitives.named.Goals as goal

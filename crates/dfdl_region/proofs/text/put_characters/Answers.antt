@@ -1,4 +1,4 @@
-use Rattle.std.proofs.Common.{ℕ, ◌≤◌, arith}
+use Rattle.std.proofs.Common.{◌≤◌, arith}
 use Rattle.dfdl_region.proofs.Rooms.{room_for}
 use Rattle.dfdl_region.proofs.text.put_characters.Goals as goal
 

@@ -1,7 +1,7 @@
 use Rattle.std.proofs.Common.{List, ◌∷◌, Bool, ap, sym, ◌∙◌, subst, OnOk}
 use Rattle.dfdl_terms.specs.declared.slots.Slot.{Slot}
 use Rattle.dfdl_parse.specs.Shown.{Becomes, state_of}
-use Rattle.dfdl_parse.specs.Slots.{count_slots, counted_slots, separation_at, slots_from}
+use Rattle.dfdl_parse.specs.Slots.{count_slots, counted_slots, slots_from}
 use Rattle.dfdl_parse.proofs.SlotCounts.{count-becomes}
 use Rattle.dfdl_parse.proofs.SlotTakes.{on_ok}
 use Rattle.dfdl_parse.proofs.parser.Parser.count_slots.Goals as goal

@@ -1,4 +1,4 @@
-use Rattle.std.proofs.Common.{ℕ, ◌-◌, length, sym}
+use Rattle.std.proofs.Common.{ℕ, ◌-◌, sym}
 use Rattle.dfdl_bits.specs.Window.{Held, from_byte, seen_at}
 use Rattle.std.proofs.Common.{Bool}
 use Rattle.dfdl_looks.specs.Asks.{Ask, ask}

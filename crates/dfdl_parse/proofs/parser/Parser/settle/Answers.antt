@@ -1,7 +1,7 @@
-use Rattle.std.proofs.Common.{OnOk, cond, subst, sym}
+use Rattle.std.proofs.Common.{OnOk, subst, sym}
 use Rattle.dfdl_separators.specs.declared.moves.SlotMove.{SlotMove}
 use Rattle.dfdl_separators.specs.declared.verdict.Here.{Here}
-use Rattle.dfdl_grammar.specs.Slots.{opens_before, taken_back}
+use Rattle.dfdl_grammar.specs.Slots.{taken_back}
 use Rattle.dfdl_parse.specs.declared.frame.SlotPlace.{SlotPlace}
 use Rattle.dfdl_parse.specs.Shown.{Becomes, state_of}
 use Rattle.dfdl_parse.specs.Slots.{settle, goes_on}

@@ -20,4 +20,5 @@ mod references;
 pub use documents::Documents;
 pub use fault::DocumentsFault;
 pub use loading::load_documents;
+pub use names::Names;
 pub use reference::{DocumentReference, ReferenceKind};

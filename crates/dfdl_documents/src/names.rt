@@ -1,5 +1,5 @@
 // Names in the order in which they are first named.
-ghost use Rattle.std.specs.Prelude.{◌≡◌, ◌++◌, ◌∷◌, [], ℕ, List, IfOk, OnOk, true, if◌then◌else◌, string_bytes, option_copied};
+ghost use Rattle.std.specs.Prelude.{◌≡◌, ◌++◌, ◌∷◌, [], ℕ, List, IfOk, OnOk, map, true, if◌then◌else◌, string_bytes, option_copied};
 ghost use Rattle.std.specs.BTreeSet.{contains_text};
 ghost use Rattle.std.specs.List.{slice_get};
 ghost use Rattle.std.specs.Str.{bytes_eq};
@@ -12,7 +12,7 @@ use std::marker::Model;
 
 /// Names, each once, in their order and in an ordered set.
 #[derive(Drop)]
-pub(crate) struct Names {
+pub struct Names {
     items: Vec<String>,
     known: BTreeSet<String>,
 }
@@ -31,7 +31,8 @@ impl Model for Names {
 }
 
 impl Names {
-    pub(crate) fn new(alloc: Global) -> Names
+    /// No name.
+    pub fn new(alloc: Global) -> Names
         ensures { result ≡ [] }
     {
         Names {
@@ -40,8 +41,15 @@ impl Names {
         }
     }
 
-    /// The name of a number.
-    pub(crate) fn get(&self, number: usize) -> Option<&str>
+    /// All of them.
+    pub fn as_slice(&self) -> &[String]
+        ensures { map (λ name. string_bytes name) result.now ≡ self.now }
+    {
+        self.items.as_slice()
+    }
+
+    /// The name of a number, from 0.
+    pub fn get(&self, number: usize) -> Option<&str>
         ensures { option_copied result ≡ slice_get self.now number }
     {
         match self.items.get(number) {
@@ -72,7 +80,7 @@ impl Names {
     }
 
     /// The names with one more, unless it is one of them.
-    pub(crate) fn with(self, name: &str) -> Result<Names, AllocError>
+    pub fn with(self, name: &str) -> Result<Names, AllocError>
         ensures { IfOk result (λ more. more ≡ with_name self name.now) }
     {
         if self.has(name) {

@@ -8,7 +8,6 @@
 
 mod calculating;
 mod expressions;
-mod names;
 mod noted;
 mod noting;
 mod prefixes;

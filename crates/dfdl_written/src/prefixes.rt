@@ -9,8 +9,8 @@ ghost use Rattle.dfdl_documents.specs.Loading.{is_among};
 ghost use Rattle.dfdl_components.specs.Sites.{IsSite};
 ghost use Rattle.dfdl_written.specs.Prefixes as spec;
 
-use crate::names::Names;
 use dfdl_components::{Schema, Site};
+use dfdl_documents::Names;
 use dfdl_xml_tree::Tree;
 use std::alloc::{AllocError, Global};
 use std::collections::BTreeMap;

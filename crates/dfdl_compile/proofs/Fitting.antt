@@ -52,6 +52,7 @@ use Rattle.dfdl_compile.specs.Shown.{HidesElement}
 use Rattle.dfdl_written.specs.Noting.{calculated_type}
 use Rattle.dfdl_compile.specs.Statements.{calculation_number, count_by, count_number, first_statement, is_set_first, judgements_of, key_number, measure_number, statements_before}
 use Rattle.dfdl_compile.specs.Keying.{dispatch_told, keys_at_number, keys_in, keys_told}
+use Rattle.dfdl_compile.specs.Empties.{is_framed_alike}
 use Rattle.dfdl_compile.specs.Components.{branch_key, branch_keys, dispatch_at, dispatch_with, keyed_by, keys_at, refusal_at, calculated_by, choice_by, component_by, component_at, component_with, counted_by, hiding_by, measure_by, parts_by, element_name, empty_number, framing_of, nil_number, number_if, part_numbers, prefix_by, prefix_number, separator_number, terminator_number, tried_by, tried_number, components_of}
 
 -- each key is that of one of the branches
@@ -171,7 +172,8 @@ module _ (purpose : Purpose) (refused : Site → Bool) (documents : List SchemaD
   of_kind kind = component_by purpose (element_name documents own) (primitive_by (judgement_at purpose refused documents own)) (number_of documents own)
       (framing_of documents (first_statement purpose refused documents own) own (judgement_at purpose refused documents own)) (judgement_at purpose refused documents own).size
       (option_map (prefix_by (prefix_number documents own)) (judgement_at purpose refused documents own).prefix) measured
-      (tried_by (nil_number documents own) (empty_number documents own) (tried_number documents own) (judgement_at purpose refused documents own).others)
+      (tried_by (is_framed_alike (judgement_at purpose refused documents own)) (nil_number documents own) (empty_number documents own) (tried_number documents own)
+      (judgement_at purpose refused documents own).others)
       (option_map (separated_by (separator_number documents own)) (judgement_at purpose refused documents own).markup.separator)
       (judgement_at purpose refused documents own).initiates (judgement_at purpose refused documents own).occurs often kind
 

@@ -1,5 +1,5 @@
 -- What components name by numbers is there: primitives, lists of literals and statements.
-use Rattle.std.proofs.Common.{◌≡◌, ℕ, suc, ◌+◌, ◌<◌, ◌≤◌, Bool, true, false, if◌then◌else◌, List, [], ◌∷◌, ◌++◌, length, length-append, get_or, All, Option, None, Some, option_map, ap, sym, subst, ◌∙◌, arith}
+use Rattle.std.proofs.Common.{◌≡◌, ℕ, suc, ◌+◌, ◌<◌, ◌≤◌, Bool, true, false, if◌then◌else◌, ◌&&◌, List, [], ◌∷◌, ◌++◌, length, length-append, get_or, All, Option, None, Some, option_map, ap, sym, subst, ◌∙◌, arith}
 use Rattle.std.proofs.lemmas.List.{length-map}
 use Rattle.std.proofs.lemmas.List.Sums.{sum_by_more_le}
 use Rattle.dfdl_documents.specs.Documents.{SchemaDocument}
@@ -34,6 +34,7 @@ use Rattle.dfdl_rows.specs.declared.component.Dispatch.{Dispatch}
 use Rattle.dfdl_rows.specs.Times.{question_of}
 use Rattle.dfdl_rows.specs.declared.component.Separated.{Separated}
 use Rattle.dfdl_rows.specs.declared.component.Component.TheVariants.{Sequence, SimpleElement, CalculatedElement}
+use Rattle.dfdl_compile.specs.Empties.{is_framed_alike, reads_as_normal}
 use Rattle.dfdl_compile.specs.Components.{box_by, branch_keys, choice_by, component_at, dispatch_at, dispatch_with, keys_at, parts_by, components_of, counted_by, delimiters_of, empty_number, framing_of, initiator_list_at, leaf_length_by, measure_by, nil_number, number_if, prefix_by, prefix_number, primitives_of, separator_list_at, separator_number, terminator_list_at, terminator_number, tried_by, tried_number}
 use Rattle.dfdl_compile.specs.Statements.{before_by, behind_by, calculation_number, count_by, count_if, count_number, counted, first_statement, is_set_first, judgements_of, key_number, measure_number, noted_of, opening_count, openings_by, settings_by}
 use Rattle.dfdl_chains.specs.declared.settings.Setter.{Setter}
@@ -69,12 +70,18 @@ module _ (purpose : Purpose) (refused : Site → Bool) (documents : List SchemaD
       tried_below : tried_number documents own < count
       tried_below = let below = number_below documents own within in omega (arith, below)
 
+      by_needed : (left : Bool) (number : ℕ) → number < count → (o : Option Primitive) → IsWithin count (if left then None else number_if number o)
+      by_needed true number below o = tt
+      by_needed false number below o = by_number number below o
+
       by_others : (others : OtherRepresentations)
-          → AreWithin count (tried_by (nil_number documents own) (empty_number documents own) (tried_number documents own) others)
+          → AreWithin count (tried_by (is_framed_alike (judgement_at purpose refused documents own)) (nil_number documents own) (empty_number documents own) (tried_number documents own) others)
       by_others others = (
         by_number (nil_number documents own) nil_below others.nil,
-        by_number (empty_number documents own) empty_below others.required.empty,
-        by_number (tried_number documents own) tried_below others.where_tried.empty,
+        by_needed (reads_as_normal others.required && is_framed_alike (judgement_at purpose refused documents own)) (empty_number documents own) empty_below
+            others.required.empty,
+        by_needed (reads_as_normal others.where_tried && is_framed_alike (judgement_at purpose refused documents own)) (tried_number documents own) tried_below
+            others.where_tried.empty,
       )
 
       by_prefix : (o : Option PrefixForm) (m : Option Measure)

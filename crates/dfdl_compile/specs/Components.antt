@@ -1,7 +1,7 @@
 -- The components of a schema's documents: each element of them is one, by its number among those of all
 -- documents. What is no component is an empty sequence, and nothing reaches it ('DFDL Schema Component
 -- Model').
-use Rattle.std.specs.Prelude.{ℕ, ◌+◌, Bool, true, false, List, [], ◌∷◌, ◌++◌, map, Option, None, Some, option_map, codes}
+use Rattle.std.specs.Prelude.{ℕ, ◌+◌, ◌&&◌, if◌then◌else◌, Bool, true, false, List, [], ◌∷◌, ◌++◌, map, Option, None, Some, option_map, codes}
 use Rattle.std.specs.Option.{unwrap_or}
 use Rattle.dfdl_forms.specs.declared.simple.Simple.{Simple}
 use Rattle.dfdl_documents.specs.Documents.{SchemaDocument}
@@ -48,6 +48,7 @@ use Rattle.dfdl_terms.specs.declared.delimiters.Delimiters.{Delimiters}
 use Rattle.dfdl_written.specs.Noting.{calculated_type}
 use Rattle.dfdl_compile.specs.Statements.{calculation_number, count_number, first_statement, is_set_first, key_number, measure_number}
 use Rattle.dfdl_compile.specs.Delimiters.{framing_by, initiator_list_by, separated_by, separator_list_by, terminator_list_by}
+use Rattle.dfdl_compile.specs.Empties.{is_framed_alike, reads_as_normal}
 use Rattle.dfdl_compile.specs.Primitives.{empty_primitive_by, is_scanned, nil_primitive_by, prefix_primitive_by, primitive_by, tried_primitive_by}
 
 -- the local name of an element
@@ -92,23 +93,27 @@ abbrev pub number_if : {X : Type 0} → ℕ → Option X → Option ℕ
 number_if number None = None
 number_if number (Some given) = Some number
 
--- the empty representation of an occurrence that is tried, where its primitive has this number
-abbrev pub where_tried_by : ℕ → EmptyRepresentation → WhereTried
-where_tried_by number own = record {
-  empty = number_if number own.empty;
+-- the number of the primitive of an empty representation: none where it is framed as the normal one, or isn't, and reads as that does
+abbrev pub number_if_needed : Bool → ℕ → EmptyRepresentation → Option ℕ
+number_if_needed alike number own = if reads_as_normal own && alike then None else number_if number own.empty
+
+-- the empty representation of an occurrence that is tried, framed as the normal one or not, where its primitive has this number
+abbrev pub where_tried_by : Bool → ℕ → EmptyRepresentation → WhereTried
+where_tried_by alike number own = record {
+  empty = number_if_needed alike number own;
   refuses_empty = own.refuses_empty;
   are_several = own.are_several;
 }
 
--- the representations of an element of which this is told, that are tried before its normal one, where the primitives of its nil one and
--- of the empty ones of a required occurrence and of one that is tried have these numbers
-abbrev pub tried_by : ℕ → ℕ → ℕ → OtherRepresentations → Representations
-tried_by nil empty tried others = record {
+-- the representations of an element that are tried before its normal one, where the empty ones are framed as that or not, and where the
+-- primitives of its nil one and of the empty ones of a required occurrence and of one that is tried have these numbers
+abbrev pub tried_by : Bool → ℕ → ℕ → ℕ → OtherRepresentations → Representations
+tried_by alike nil empty tried others = record {
   nil = number_if nil others.nil;
-  empty = number_if empty others.required.empty;
+  empty = number_if_needed alike empty others.required;
   refuses_empty = others.required.refuses_empty;
   are_several = others.required.are_several;
-  where_tried = where_tried_by tried others.where_tried;
+  where_tried = where_tried_by alike tried others.where_tried;
 }
 
 -- a length prefix whose primitive has this number
@@ -186,7 +191,7 @@ component_with purpose documents first own judgement =
     judgement.size
     (option_map (prefix_by (prefix_number documents own)) judgement.prefix)
     (option_map (measure_by (measure_number first judgement)) judgement.measure)
-    (tried_by (nil_number documents own) (empty_number documents own) (tried_number documents own) judgement.others)
+    (tried_by (is_framed_alike judgement) (nil_number documents own) (empty_number documents own) (tried_number documents own) judgement.others)
     (option_map (separated_by (separator_number documents own)) judgement.markup.separator) judgement.initiates judgement.occurs
     (counted_by judgement.is_parsed (number_if (count_number first judgement) judgement.count)) (kind_at documents own)))
 

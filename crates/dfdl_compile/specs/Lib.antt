@@ -1,6 +1,7 @@
 pub mod Primitives
 pub mod Statements
 pub mod Delimiters
+pub mod Empties
 pub mod Components
 pub mod Keying
 pub mod Compiled

@@ -12,10 +12,12 @@ ghost use Rattle.dfdl_chains.specs.Everywhere.{all_sites};
 ghost use Rattle.dfdl_compile.specs.Components as spec;
 ghost use Rattle.dfdl_rows.specs.declared.component.Component.TheVariants.{Sequence};
 ghost use Rattle.dfdl_compile.specs.Delimiters as delimiters;
+ghost use Rattle.dfdl_compile.specs.Empties.{is_framed_alike};
 ghost use Rattle.dfdl_compile.specs.Primitives.{primitive_by};
 ghost use Rattle.dfdl_compile.specs.Shown.{HidesElement};
 ghost use Rattle.dfdl_compile.specs.Statements as statements;
 
+use crate::empties::{is_framed_alike, reads_as_normal};
 use crate::keying::{dispatch_of, keyed_by};
 use crate::measuring::{box_by, counted_by, leaf_length_by, measure_by, question_if};
 use crate::primitives::{is_scanned_by, type_by};
@@ -68,28 +70,44 @@ fn number_if(number: u32, primitive: &Option<Primitive>) -> Option<u32>
     }
 }
 
-// The empty representation of an occurrence that is tried, where its primitive has this number.
-fn where_tried_by(number: u32, own: &EmptyRepresentation) -> WhereTried
-    ensures { result ≡ spec.where_tried_by number own.now }
+// The number of the primitive of an empty representation, which is framed as the normal one or isn't, where it is needed.
+fn number_if_needed(alike: bool, number: u32, own: &EmptyRepresentation) -> Option<u32>
+    ensures { result ≡ spec.number_if_needed alike number own.now }
+{
+    if reads_as_normal(own) && alike {
+        return None;
+    }
+    number_if(number, &own.empty)
+}
+
+// The empty representation of an occurrence that is tried, framed as the normal one or not, where its primitive has this number.
+fn where_tried_by(alike: bool, number: u32, own: &EmptyRepresentation) -> WhereTried
+    ensures { result ≡ spec.where_tried_by alike number own.now }
 {
     WhereTried {
-        empty: number_if(number, &own.empty),
+        empty: number_if_needed(alike, number, own),
         refuses_empty: own.refuses_empty,
         are_several: own.are_several,
     }
 }
 
-// The representations that are tried before an element's normal one, where the primitives of its nil one and of the empty ones of a
-// required occurrence and of one that is tried have these numbers.
-fn tried_by(nil: u32, empty: u32, tried: u32, others: &OtherRepresentations) -> Representations
-    ensures { result ≡ spec.tried_by nil empty tried others.now }
+// The representations that are tried before an element's normal one, where the empty ones are framed as that or not, and where the primitives
+// of its nil one and of the empty ones of a required occurrence and of one that is tried have these numbers.
+fn tried_by(
+    alike: bool,
+    nil: u32,
+    empty: u32,
+    tried: u32,
+    others: &OtherRepresentations,
+) -> Representations
+    ensures { result ≡ spec.tried_by alike nil empty tried others.now }
 {
     Representations {
         nil: number_if(nil, &others.nil),
-        empty: number_if(empty, &others.required.empty),
+        empty: number_if_needed(alike, empty, &others.required),
         refuses_empty: others.required.refuses_empty,
         are_several: others.required.are_several,
-        where_tried: where_tried_by(tried, &others.where_tried),
+        where_tried: where_tried_by(alike, tried, &others.where_tried),
     }
 }
 
@@ -350,7 +368,7 @@ fn by_numbers(
     ensures measure { IfOk result (λ found. found.measure
         ≡ option_map (spec.measure_by (statements.measure_number first judgement.now)) judgement.now.measure) }
     ensures tried { IfOk result (λ found. found.tried
-        ≡ spec.tried_by (spec.nil_number schema.now site) (spec.empty_number schema.now site) (spec.tried_number schema.now site)
+        ≡ spec.tried_by (is_framed_alike judgement.now) (spec.nil_number schema.now site) (spec.empty_number schema.now site) (spec.tried_number schema.now site)
         judgement.now.others) }
     ensures separated { IfOk result (λ found. found.separated
         ≡ option_map (delimiters.separated_by (spec.separator_number schema.now site)) judgement.now.markup.separator) }
@@ -373,7 +391,13 @@ fn by_numbers(
         framing,
         prefix: prefix_by(prefix, judgement),
         measure: measure_by(measure, &judgement.measure),
-        tried: tried_by(nil, empty, tried, &judgement.others),
+        tried: tried_by(
+            is_framed_alike(judgement),
+            nil,
+            empty,
+            tried,
+            &judgement.others,
+        ),
         separated: separated_by(separator, judgement),
         counted: counted_by(judgement.is_parsed, count),
     })

@@ -6,6 +6,7 @@
 #![tactic(auto)]
 
 mod compiling;
+mod empties;
 mod fault;
 mod gathering;
 mod keying;

@@ -126,7 +126,15 @@ fn put(bytes: &mut Vec<u8>, more: &[u8])
 }
 
 // Whether the characters have at most so many bytes as UTF-8.
+#[tactic(auto, using(crate::proofs::Rooms::at_most_four))]
 fn fits(characters: &[char], room: usize) -> bool
+    ensures { IsTrue result ↔ (length (utf8_of characters.now) ≤ room) }
+{
+    characters.len() <= room / 4 || fits_counted(characters, room)
+}
+
+// The same, by the bytes of each.
+fn fits_counted(characters: &[char], room: usize) -> bool
     ensures { IsTrue result ↔ (length (utf8_of characters.now) ≤ room) }
 {
     let mut left = room;
@@ -157,6 +165,10 @@ fn put_character(bytes: &mut Vec<u8>, c: char)
     ensures items { bytes.new.items ≡ bytes.old.items ++ encode_utf8 c }
     ensures capacity { vec_capacity bytes.old ≤ vec_capacity bytes.new }
 {
+    if c.is_ascii() {
+        bytes.push_reserved(c as u8);
+        return;
+    }
     let mut room = [0; 4];
     put(bytes, c.encode_utf8(&mut room).as_bytes());
 }

@@ -95,10 +95,10 @@ fn put_given(bytes: &[u8], mode: Mode, into: &mut Vec<Character>) -> Result<(), 
     into.reserve(bytes.len())?;
     let is_escaped = !seeks(mode);
     for byte in bytes {
-        into.push(Character {
+        into.push_reserved(Character {
             c: *byte as char,
             is_escaped,
-        })?;
+        });
     }
     Ok(())
 }

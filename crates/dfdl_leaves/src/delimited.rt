@@ -177,8 +177,9 @@ fn put_plain(content: &[Character], into: &mut Vec<char>) -> Result<(), AllocErr
     ensures { OnOk result (into.new.items ≡ plain content.now) }
 {
     into.clear();
+    into.reserve(content.len())?;
     for character in content {
-        into.push(character.c)?;
+        into.push_reserved(character.c);
     }
     Ok(())
 }

@@ -19,13 +19,13 @@ IsAnswered expected result = Answers {A = Vec Event Global} {B = List Event} (λ
 -- what was found in the content is what the whole says
 pub found_answer : (t : Table) (whole content : Data) (name : List ℕ) (root : ℕ) (found : Found) (result : Result (Vec Event Global) InfosetFault) → root ≡ root_row t
     → name ≡ name_of t root → Some content ≡ content_in name whole
-    → found ≡ fold noted (record { events = []; refused = None }) (findings t root content [] ++ [])
+    → found ≡ fold noted (record { events = []; refused = None }) (findings t root None content [] ++ [])
     → IsAnswered (unless_refused found.refused found.events) result → IsAnswered (events_in t whole) result
 found_answer t whole content name root found result root_is name_is there found_is answered =
-    let said : unless_refused found.refused found.events ≡ answer_of (findings t root content []) = all_noted found (findings t root content []) found_is in
+    let said : unless_refused found.refused found.events ≡ answer_of (findings t root None content []) = all_noted found (findings t root None content []) found_is in
     let named : content_in (name_of t (root_row t)) whole ≡ Some content = sym (there ∙ ap (λ n. content_in n whole) (name_is ∙ ap (name_of t) root_is)) in
     let expected : unless_refused found.refused found.events ≡ events_in t whole
-    = said ∙ (ap (λ r. answer_of (findings t r content [])) root_is ∙ ap (λ o. answer_of (root_findings t o)) (sym named)) in
+    = said ∙ (ap (λ r. answer_of (findings t r None content [])) root_is ∙ ap (λ o. answer_of (root_findings t o)) (sym named)) in
     subst (λ (r : Result (List Event) Refusal). IsAnswered r result) expected answered
 
 -- the events that are answered fit

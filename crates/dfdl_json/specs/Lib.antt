@@ -10,10 +10,12 @@ pub mod Infosets
 pub mod Inside
 pub mod Lines
 pub mod Marking
+pub mod Members
 pub mod Paths
 pub mod Ranks
 pub mod Ready
 pub mod Reading
+pub mod ReadingSteps
 pub mod Sorted
 pub mod Steps
 pub mod Texts

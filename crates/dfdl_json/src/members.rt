@@ -1,5 +1,5 @@
 // The parts of a JSON value: the root element's content, the names and the values of its members.
-ghost use Rattle.std.specs.Prelude.{◌≡◌, IfOk, map, option_map, string_bytes};
+ghost use Rattle.std.specs.Prelude.{◌≡◌, ℕ, List, IfOk, map, option_map, string_bytes};
 ghost use Rattle.std.specs.BTreeSet.{contains, contains_by};
 ghost use Rattle.std.specs.BTreeMap.{keys};
 ghost use Rattle.std.specs.List.{list_all};
@@ -7,14 +7,13 @@ ghost use Rattle.std.specs.Cmp.Lexicographic.{slice_cmp};
 ghost use Rattle.std.specs.Ordering.{nat_cmp};
 ghost use Rattle.serde_json.specs.Find.{get_member};
 ghost use Rattle.serde_json.specs.View.{view, members_view};
+ghost use Rattle.dfdl_terms.specs.Rows.{Table};
 ghost use Rattle.dfdl_value.specs.Types.{IsOfType};
 ghost use Rattle.dfdl_value.specs.ReadValues.{reading_of};
-ghost use Rattle.dfdl_json.specs.Infosets.{content_in, value_if, value_in, are_known as all_known};
+ghost use Rattle.dfdl_json.specs.Infosets.{content_in, value_if, value_in, are_known as all_known, is_nil as spells_nil};
 ghost use Rattle.dfdl_json.specs.Reading.{HasNames};
 
-use crate::children::name_of;
 use dfdl_report::InfosetCause;
-use dfdl_terms::{RowId, Terms};
 use dfdl_value::{ReadFault, Simple, Value};
 use serde_json::{Map, Value as Json};
 use std::alloc::{AllocError, Global};
@@ -39,39 +38,29 @@ pub(crate) fn member_of<'v>(members: &'v Map<String, Json>, name: &str) -> Optio
     members.get(name)
 }
 
-// Whether each member has the name of one of these elements.
-pub(crate) fn are_known(
-    alloc: Global,
-    terms: &Terms,
-    elements: &[RowId],
-    members: &Map<String, Json>,
-) -> Result<bool, AllocError>
-    ensures { IfOk result (λ known. known ≡ all_known terms.now elements.now (members_view members.now.entries)) }
-{
-    let names = names_of(alloc, terms, elements)?;
-    Ok(are_among(members, &names))
-}
-
-// The names of the elements of these rows.
-fn names_of<'t>(
-    alloc: Global,
-    terms: &'t Terms,
-    elements: &[RowId],
-) -> Result<BTreeSet<&'t str>, AllocError>
-    ensures { IfOk result (λ names. HasNames (contains (λ x y. slice_cmp nat_cmp x.now y.now) names) terms.now elements.now) }
-{
-    let mut names = BTreeSet::new(alloc);
-    for row in elements {
-        names.insert(name_of(terms, *row))?;
-    }
-    Ok(names)
-}
-
 // Whether each member has one of these names.
+pub(crate) fn are_known(members: &Map<String, Json>, names: &BTreeSet<&str>) -> bool
+    ensures { (t : Table) (elements : List ℕ) → HasNames (contains (λ x y. slice_cmp nat_cmp x.now y.now) names.now) t elements
+        → result ≡ all_known t elements (members_view members.now.entries) }
+{
+    are_among(members, names)
+}
+
+// Whether each member has one of these names, by the test of the set.
 fn are_among(members: &Map<String, Json>, names: &BTreeSet<&str>) -> bool
     ensures { result ≡ list_all (λ key. contains_by (λ k. slice_cmp nat_cmp (string_bytes key) k.now) names.now) (keys members.now) }
 {
     members.keys().all(|name| names.contains(name.as_str()))
+}
+
+// Whether an element is nil, whose nil representation has this primitive.
+pub(crate) fn is_nil(nil: Option<u32>, content: &Json) -> bool
+    ensures { result ≡ spells_nil nil (view content.now) }
+{
+    match nil {
+        Some(_) => matches!(content, Json::Null),
+        None => false,
+    }
 }
 
 // What a member says of its simple element.

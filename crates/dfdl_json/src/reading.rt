@@ -1,31 +1,42 @@
 // The reading of an infoset, element by element in schema order.
-ghost use Rattle.std.specs.Prelude.{◌≡◌, ◌<◌, ◌≤◌, ◌+◌, ◌++◌, ◌∷◌, [], None, IfOk, OnOk, drop, fold, map};
-ghost use Rattle.serde_json.specs.View.{view, members_view};
+ghost use Rattle.std.specs.Prelude.{◌≡◌, ◌<◌, ◌+◌, ◌++◌, ◌∷◌, [], None, Some, IfOk, OnOk, drop, fold, if◌then◌else◌, suc};
+ghost use Rattle.std.specs.BTreeSet.{contains};
+ghost use Rattle.std.specs.Cmp.Lexicographic.{slice_cmp};
+ghost use Rattle.std.specs.Ordering.{nat_cmp};
+ghost use Rattle.serde_json.specs.View.{view, items_view, members_view};
+ghost use Rattle.dfdl_terms.specs.Arrays.{is_marked};
 ghost use Rattle.dfdl_terms.specs.Rows.{Table};
 ghost use Rattle.dfdl_terms.specs.declared.event.Event.TheVariants.{Start, Simple as SimpleElement, End};
-ghost use Rattle.dfdl_json.specs.declared.reading.Task.TheVariants.{Read};
+ghost use Rattle.dfdl_report.specs.declared.cause.InfosetCause.TheVariants.{ArrayExpected};
+ghost use Rattle.dfdl_json.specs.declared.reading.Task.TheVariants.{Read, Item, Array};
 ghost use Rattle.dfdl_json.specs.Children as children;
 ghost use Rattle.dfdl_json.specs.Found.{noted};
-ghost use Rattle.dfdl_json.specs.Infosets.{Says, findings, complex_findings, children_findings, unknown_findings, simple_findings, refused, value_in};
-ghost use Rattle.dfdl_json.specs.Paths.{Names};
-ghost use Rattle.dfdl_json.specs.Reading.{all_found, coming, data_at, steps_left};
-ghost use Rattle.dfdl_json.specs.Steps.{steps_of, total};
+ghost use Rattle.dfdl_json.specs.Infosets.{Says, array_findings, findings, complex_findings, children_findings, items_findings, unknown_findings, simple_findings, refused, value_in};
+ghost use Rattle.dfdl_json.specs.Members.{members_in};
+ghost use Rattle.dfdl_json.specs.Paths.{Names, step_to};
+ghost use Rattle.dfdl_json.specs.Reading.{AreMarks, HasNames, all_found, coming, data_at, steps_left};
+ghost use Rattle.dfdl_json.specs.ReadingSteps.{array_cost, children_cost, complex_cost, cost, items_cost};
 
-use crate::children::{elements_in, name_of, row_at};
+use crate::children::{name_of, row_at};
 use crate::found::Found;
-use crate::members::{are_known, member_of, read_member};
+use crate::marks::Marks;
+use crate::members::{are_known, is_nil, member_of, read_member};
+use crate::named::NamedElements;
 use crate::path::OpenElements;
 use dfdl_report::InfosetCause;
-use dfdl_terms::{Event, Row, RowId, Terms};
+use dfdl_terms::{Event, Items, Row, RowId, Terms};
 use dfdl_value::{Simple, Value};
 use serde_json::{Map, Value as Json};
 use std::alloc::{AllocError, Global};
 use std::collections::VecDeque;
 
-// What is to be done next: the element of this row is read, or the innermost open element ends.
+// What is to be done next: the element of this row is read, or an item of its array at a place counted from 1, or the array of
+// its items, or the innermost open element ends.
 #[derive(Clone, Copy, Drop)]
 pub(crate) enum Task {
     Read(RowId),
+    Item(RowId, usize),
+    Array(RowId),
     Close,
 }
 
@@ -46,7 +57,7 @@ impl<'t, 'v> Reading<'t, 'v> {
         content: &'v Json,
     ) -> Result<Reading<'t, 'v>, AllocError>
         ensures { IfOk result (λ reading. (t : Table) → all_found t reading
-            ≡ fold noted (record { events = []; refused = None }) (findings t row (view content.now) [] ++ [])) }
+            ≡ fold noted (record { events = []; refused = None }) (findings t row None (view content.now) [] ++ [])) }
     {
         let mut tasks = VecDeque::new(alloc);
         tasks.push_front(Task::Read(row))?;
@@ -61,11 +72,17 @@ impl<'t, 'v> Reading<'t, 'v> {
     }
 
     // Reads all that is left.
-    pub(crate) fn run(&mut self, alloc: Global, terms: &'t Terms) -> Result<(), AllocError>
+    pub(crate) fn run(
+        &mut self,
+        alloc: Global,
+        terms: &'t Terms,
+        marks: &Marks,
+    ) -> Result<(), AllocError>
+        requires { AreMarks terms.now marks.now }
         ensures { OnOk result (self.new.found ≡ all_found terms.now self.old) }
     {
         while let Some(task) = self.tasks.pop_front() {
-            self.perform(alloc, terms, task)?;
+            self.perform(alloc, terms, marks, task)?;
         }
         Ok(())
     }
@@ -78,14 +95,23 @@ impl<'t, 'v> Reading<'t, 'v> {
     }
 
     // Does a task that stood before the others, or puts others in its place.
-    fn perform(&mut self, alloc: Global, terms: &'t Terms, task: Task) -> Result<(), AllocError>
+    fn perform(
+        &mut self,
+        alloc: Global,
+        terms: &'t Terms,
+        marks: &Marks,
+        task: Task,
+    ) -> Result<(), AllocError>
+        requires { AreMarks terms.now marks.now }
         ensures same { OnOk result (all_found terms.now self.new
             ≡ fold noted self.old.found (coming terms.now (task ∷ self.old.tasks.items) (data_at self.old.contents.items) self.old.around)) }
-        ensures less { OnOk result (steps_left terms.now self.new.tasks.items
-            < steps_left terms.now (task ∷ self.old.tasks.items)) }
+        ensures less { OnOk result (steps_left terms.now self.new.tasks.items (data_at self.new.contents.items)
+            < steps_left terms.now (task ∷ self.old.tasks.items) (data_at self.old.contents.items)) }
     {
         match task {
-            Task::Read(row) => self.read(alloc, terms, row),
+            Task::Read(row) => self.read(alloc, terms, marks, row),
+            Task::Item(row, place) => self.read_item(alloc, terms, marks, row, place),
+            Task::Array(row) => self.read_array(alloc, terms, row),
             Task::Close => self.close(),
         }
     }
@@ -102,44 +128,154 @@ impl<'t, 'v> Reading<'t, 'v> {
     }
 
     // Reads the element of this row, whose content is the next one.
-    fn read(&mut self, alloc: Global, terms: &'t Terms, row: RowId) -> Result<(), AllocError>
+    fn read(
+        &mut self,
+        alloc: Global,
+        terms: &'t Terms,
+        marks: &Marks,
+        row: RowId,
+    ) -> Result<(), AllocError>
+        requires { AreMarks terms.now marks.now }
         ensures same { OnOk result (all_found terms.now self.new
             ≡ fold noted self.old.found (coming terms.now (Read row ∷ self.old.tasks.items) (data_at self.old.contents.items) self.old.around)) }
-        ensures less { OnOk result (steps_left terms.now self.new.tasks.items
-            < steps_of terms.now row + steps_left terms.now self.old.tasks.items) }
+        ensures less { OnOk result (steps_left terms.now self.new.tasks.items (data_at self.new.contents.items)
+            < steps_left terms.now (Read row ∷ self.old.tasks.items) (data_at self.old.contents.items)) }
     {
         match self.contents.pop_front() {
-            Some(content) => self.read_content(alloc, terms, row, content),
+            Some(content) => self.read_content(alloc, terms, marks, row, None, content),
             None => Ok(()),
         }
     }
 
-    // Reads this content of the element of this row.
+    // Reads the item at this place of the array of the element of this row, whose content is the next one.
+    fn read_item(
+        &mut self,
+        alloc: Global,
+        terms: &'t Terms,
+        marks: &Marks,
+        row: RowId,
+        place: usize,
+    ) -> Result<(), AllocError>
+        requires { AreMarks terms.now marks.now }
+        ensures same { OnOk result (all_found terms.now self.new
+            ≡ fold noted self.old.found (coming terms.now (Item row place ∷ self.old.tasks.items) (data_at self.old.contents.items) self.old.around)) }
+        ensures less { OnOk result (steps_left terms.now self.new.tasks.items (data_at self.new.contents.items)
+            < steps_left terms.now (Item row place ∷ self.old.tasks.items) (data_at self.old.contents.items)) }
+    {
+        match self.contents.pop_front() {
+            Some(content) => self.read_content(alloc, terms, marks, row, Some(place), content),
+            None => Ok(()),
+        }
+    }
+
+    // Reads the array of the element of this row, whose content is the next one.
+    fn read_array(&mut self, alloc: Global, terms: &'t Terms, row: RowId) -> Result<(), AllocError>
+        ensures same { OnOk result (all_found terms.now self.new
+            ≡ fold noted self.old.found (coming terms.now (Array row ∷ self.old.tasks.items) (data_at self.old.contents.items) self.old.around)) }
+        ensures less { OnOk result (steps_left terms.now self.new.tasks.items (data_at self.new.contents.items)
+            < steps_left terms.now (Array row ∷ self.old.tasks.items) (data_at self.old.contents.items)) }
+    {
+        match self.contents.pop_front() {
+            Some(content) => self.read_items(alloc, row, name_of(terms, row), content),
+            None => Ok(()),
+        }
+    }
+
+    // Reads this content of the array of the element of this row, which has this name.
+    fn read_items(
+        &mut self,
+        alloc: Global,
+        row: RowId,
+        name: &'t str,
+        content: &'v Json,
+    ) -> Result<(), AllocError>
+        ensures same { OnOk result ((t : Table) → all_found t self.new
+            ≡ fold noted self.old.found (array_findings (findings t row) name.now self.old.around (view content.now)
+            ++ coming t self.old.tasks.items (data_at self.old.contents.items) self.old.around)) }
+        ensures less { OnOk result ((t : Table) → steps_left t self.new.tasks.items (data_at self.new.contents.items)
+            < array_cost (cost t row) (view content.now) + steps_left t self.old.tasks.items (data_at self.old.contents.items)) }
+    {
+        match content {
+            Json::Array(items) => self.push_items(row, items.as_slice()),
+            _ => self.refuse_array(alloc, name),
+        }
+    }
+
+    // Puts the items of an array before the other tasks.
+    fn push_items(&mut self, row: RowId, items: &'v [Json]) -> Result<(), AllocError>
+        ensures names { OnOk result (self.new.around ≡ self.old.around) }
+        ensures found { OnOk result (self.new.found ≡ self.old.found) }
+        ensures coming { OnOk result ((t : Table) (names : Names) → coming t self.new.tasks.items (data_at self.new.contents.items) names
+            ≡ items_findings (findings t row) names 1 (items_view items.now)
+            ++ coming t self.old.tasks.items (data_at self.old.contents.items) names) }
+        ensures steps { OnOk result ((t : Table) → steps_left t self.new.tasks.items (data_at self.new.contents.items)
+            ≡ items_cost (cost t row) (items_view items.now) + steps_left t self.old.tasks.items (data_at self.old.contents.items)) }
+    {
+        for at in (0..items.len()).rev() {
+            self.tasks.push_front(Task::Item(row, at + 1))?;
+            self.contents.push_front(&items[at])?;
+        }
+        Ok(())
+    }
+
+    // The element of this name is refused, which is no array.
+    fn refuse_array(&mut self, alloc: Global, name: &'t str) -> Result<(), AllocError>
+        ensures tasks { OnOk result (self.new.tasks.items ≡ self.old.tasks.items) }
+        ensures contents { OnOk result (self.new.contents.items ≡ self.old.contents.items) }
+        ensures names { OnOk result (self.new.around ≡ self.old.around) }
+        ensures found { OnOk result (self.new.found ≡ noted self.old.found (refused ArrayExpected (name.now ∷ self.old.around))) }
+    {
+        self.around.push(name)?;
+        self.end_refused(alloc, InfosetCause::ArrayExpected)
+    }
+
+    // Reads this content of an occurrence of the element of this row, which has this place in its array, if it is an item.
     fn read_content(
         &mut self,
         alloc: Global,
         terms: &'t Terms,
+        marks: &Marks,
         row: RowId,
+        place: Option<usize>,
         content: &'v Json,
     ) -> Result<(), AllocError>
+        requires { AreMarks terms.now marks.now }
         ensures same { OnOk result (all_found terms.now self.new
-            ≡ fold noted self.old.found (findings terms.now row (view content.now) self.old.around
+            ≡ fold noted self.old.found (findings terms.now row place (view content.now) self.old.around
             ++ coming terms.now self.old.tasks.items (data_at self.old.contents.items) self.old.around)) }
-        ensures less { OnOk result (steps_left terms.now self.new.tasks.items
-            < steps_of terms.now row + steps_left terms.now self.old.tasks.items) }
+        ensures less { OnOk result (steps_left terms.now self.new.tasks.items (data_at self.new.contents.items)
+            < suc (cost terms.now row (view content.now)) + steps_left terms.now self.old.tasks.items (data_at self.old.contents.items)) }
     {
         match row_at(terms, row) {
             Some(
                 Row::Elem {
                     name,
                     simple,
+                    tried,
                     body,
                     ..
                 },
-            ) => match simple {
-                Some(kind) => self.read_simple(alloc, row, name.as_str(), *kind, content),
-                None => self.read_complex(alloc, terms, row, name.as_str(), *body, content),
-            },
+            ) => {
+                if is_nil(tried.nil, content) {
+                    self.found.say(Event::Nil { elem: row })
+                } else {
+                    match simple {
+                        Some(kind) => {
+                            self.read_simple(alloc, row, place, name.as_str(), *kind, content)
+                        }
+                        None => self.read_complex(
+                            alloc,
+                            terms,
+                            marks,
+                            row,
+                            place,
+                            name.as_str(),
+                            *body,
+                            content,
+                        ),
+                    }
+                }
+            }
             Some(Row::Leaf { .. }) => Ok(()),
             Some(Row::Group { .. }) => Ok(()),
             Some(Row::Skip { .. }) => Ok(()),
@@ -173,6 +309,7 @@ impl<'t, 'v> Reading<'t, 'v> {
         &mut self,
         alloc: Global,
         row: RowId,
+        place: Option<usize>,
         name: &'t str,
         kind: Simple,
         content: &Json,
@@ -181,9 +318,9 @@ impl<'t, 'v> Reading<'t, 'v> {
         ensures contents { OnOk result (self.new.contents.items ≡ self.old.contents.items) }
         ensures names { OnOk result (self.new.around ≡ self.old.around) }
         ensures found { OnOk result (self.new.found ≡ fold noted self.old.found
-            (simple_findings row (name.now ∷ self.old.around) (value_in kind (view content.now)))) }
+            (simple_findings row (step_to name.now place ∷ self.old.around) (value_in kind (view content.now)))) }
     {
-        self.around.push(name)?;
+        self.around.push_step(name, place)?;
         match read_member(alloc, kind, content)? {
             Ok(value) => self.end_simple(row, value),
             Err(cause) => self.end_refused(alloc, cause),
@@ -219,21 +356,25 @@ impl<'t, 'v> Reading<'t, 'v> {
         &mut self,
         alloc: Global,
         terms: &'t Terms,
+        marks: &Marks,
         row: RowId,
+        place: Option<usize>,
         name: &'t str,
         body: RowId,
         content: &'v Json,
     ) -> Result<(), AllocError>
+        requires { AreMarks terms.now marks.now }
         ensures same { OnOk result (all_found terms.now self.new
             ≡ fold noted self.old.found (complex_findings terms.now (findings terms.now) row
-            (children.elements_in terms.now body) (name.now ∷ self.old.around) (view content.now)
+            (members_in terms.now body) (step_to name.now place ∷ self.old.around) (view content.now)
             ++ coming terms.now self.old.tasks.items (data_at self.old.contents.items) self.old.around)) }
-        ensures less { OnOk result (steps_left terms.now self.new.tasks.items
-            < 2 + steps_of terms.now body + steps_left terms.now self.old.tasks.items) }
+        ensures less { OnOk result (steps_left terms.now self.new.tasks.items (data_at self.new.contents.items)
+            < suc (complex_cost terms.now (cost terms.now) (members_in terms.now body) (view content.now))
+            + steps_left terms.now self.old.tasks.items (data_at self.old.contents.items)) }
     {
-        self.around.push(name)?;
+        self.around.push_step(name, place)?;
         match content {
-            Json::Object(members) => self.begin(alloc, terms, row, body, members),
+            Json::Object(members) => self.begin(alloc, terms, marks, row, body, members),
             Json::Null => self.end_refused(alloc, InfosetCause::NullNotAllowed),
             _ => self.end_refused(alloc, InfosetCause::ObjectExpected),
         }
@@ -244,24 +385,27 @@ impl<'t, 'v> Reading<'t, 'v> {
         &mut self,
         alloc: Global,
         terms: &Terms,
+        marks: &Marks,
         row: RowId,
         body: RowId,
         members: &'v Map<String, Json>,
     ) -> Result<(), AllocError>
+        requires { AreMarks terms.now marks.now }
         ensures names { OnOk result (self.new.around ≡ self.old.around) }
         ensures found { OnOk result (self.new.found ≡ fold noted self.old.found (Says (Start row)
-            ∷ unknown_findings terms.now (children.elements_in terms.now body) self.old.around (members_view members.now.entries))) }
+            ∷ unknown_findings terms.now (members_in terms.now body) self.old.around (members_view members.now.entries))) }
         ensures coming { OnOk result ((names : Names) → coming terms.now self.new.tasks.items (data_at self.new.contents.items) names
-            ≡ children_findings terms.now (findings terms.now) (children.elements_in terms.now body) names (members_view members.now.entries)
+            ≡ children_findings terms.now (findings terms.now) (members_in terms.now body) names (members_view members.now.entries)
             ++ Says End ∷ coming terms.now self.old.tasks.items (data_at self.old.contents.items) (drop 1 names)) }
-        ensures less { OnOk result (steps_left terms.now self.new.tasks.items
-            < 2 + steps_of terms.now body + steps_left terms.now self.old.tasks.items) }
+        ensures steps { OnOk result (steps_left terms.now self.new.tasks.items (data_at self.new.contents.items)
+            ≡ suc (children_cost terms.now (cost terms.now) (members_in terms.now body) (members_view members.now.entries)
+            + steps_left terms.now self.old.tasks.items (data_at self.old.contents.items))) }
     {
         self.found.say(Event::Start { elem: row })?;
-        let elements = elements_in(alloc, terms, body)?;
-        self.check_known(alloc, terms, &elements, members)?;
+        let named = NamedElements::of(alloc, terms, &marks.hidden, body)?;
+        self.check_known(alloc, terms, &named, members)?;
         self.tasks.push_front(Task::Close)?;
-        self.push_members(terms, &elements, members)
+        self.push_members(terms, marks, &named.rows, members)
     }
 
     // The innermost open element is refused where a member has the name of none of these elements.
@@ -269,16 +413,17 @@ impl<'t, 'v> Reading<'t, 'v> {
         &mut self,
         alloc: Global,
         terms: &Terms,
-        elements: &[RowId],
+        named: &NamedElements<'_>,
         members: &Map<String, Json>,
     ) -> Result<(), AllocError>
+        requires { HasNames (contains (λ x y. slice_cmp nat_cmp x.now y.now) named.now.names) terms.now named.now.rows.items }
         ensures tasks { OnOk result (self.new.tasks.items ≡ self.old.tasks.items) }
         ensures contents { OnOk result (self.new.contents.items ≡ self.old.contents.items) }
         ensures names { OnOk result (self.new.around ≡ self.old.around) }
         ensures found { OnOk result (self.new.found ≡ fold noted self.old.found
-            (unknown_findings terms.now elements.now self.old.around (members_view members.now.entries))) }
+            (unknown_findings terms.now named.now.rows.items self.old.around (members_view members.now.entries))) }
     {
-        if are_known(alloc, terms, elements, members)? {
+        if are_known(members, &named.names) {
             return Ok(());
         }
         let level = self.around.depth();
@@ -290,24 +435,38 @@ impl<'t, 'v> Reading<'t, 'v> {
     fn push_members(
         &mut self,
         terms: &Terms,
+        marks: &Marks,
         elements: &[RowId],
         members: &'v Map<String, Json>,
     ) -> Result<(), AllocError>
+        requires { AreMarks terms.now marks.now }
         ensures names { OnOk result (self.new.around ≡ self.old.around) }
         ensures found { OnOk result (self.new.found ≡ self.old.found) }
         ensures coming { OnOk result ((names : Names) → coming terms.now self.new.tasks.items (data_at self.new.contents.items) names
             ≡ children_findings terms.now (findings terms.now) elements.now names (members_view members.now.entries)
             ++ coming terms.now self.old.tasks.items (data_at self.old.contents.items) names) }
-        ensures few { OnOk result (steps_left terms.now self.new.tasks.items
-            ≤ total (map (steps_of terms.now) elements.now) + steps_left terms.now self.old.tasks.items) }
+        ensures steps { OnOk result (steps_left terms.now self.new.tasks.items (data_at self.new.contents.items)
+            ≡ children_cost terms.now (cost terms.now) elements.now (members_view members.now.entries)
+            + steps_left terms.now self.old.tasks.items (data_at self.old.contents.items)) }
     {
         for at in (0..elements.len()).rev() {
             let row = elements[at];
             if let Some(content) = member_of(members, name_of(terms, row)) {
-                self.tasks.push_front(Task::Read(row))?;
+                self.tasks.push_front(reading_of(&marks.items, row))?;
                 self.contents.push_front(content)?;
             }
         }
         Ok(())
+    }
+}
+
+// How the member of the element of this row is read, where these rows are those of items.
+fn reading_of(items: &Items, row: RowId) -> Task
+    ensures { result ≡ if is_marked items.now row then Array row else Read row }
+{
+    if items.has(row) {
+        Task::Array(row)
+    } else {
+        Task::Read(row)
     }
 }

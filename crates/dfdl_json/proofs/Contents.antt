@@ -1,5 +1,5 @@
 -- What content says of an element, and what is left to be read.
-use Rattle.std.proofs.Common.{◌≡◌, ℕ, suc, ◌+◌, ◌<◌, ◌≤◌, ◌||◌, cond, true, false, List, [], ◌∷◌, ◌++◌, length, drop, fold, All, map, get_or, Bool, Option, None, Some, slice_get, refl, sym, ap, ◌∙◌, arith, append_assoc, drop-cons, Bor}
+use Rattle.std.proofs.Common.{◌≡◌, ℕ, suc, ◌+◌, ◌<◌, ◌≤◌, ◌||◌, cond, true, false, List, [], ◌∷◌, ◌++◌, length, drop, fold, All, get_or, Bool, Option, None, Some, slice_get, refl, sym, ap, ◌∙◌, arith, append_assoc, drop-cons, Bor}
 use Rattle.std.proofs.Math.ListN.{drop_of_length-le}
 use Rattle.std.proofs.lemmas.Grind.{fold-append}
 use Rattle.std.proofs.lemmas.List.Elements.{All-append, All-cons, All-head, All-nil, All-tail}
@@ -32,7 +32,7 @@ use Rattle.dfdl_json.specs.Reading.{coming, data_at, steps_left}
 use Rattle.dfdl_json.specs.ReadingSteps.{array_cost, children_cost, complex_cost, cost, cost_by, items_cost, member_cost}
 use Rattle.dfdl_json.specs.Steps.{total}
 use Rattle.dfdl_json.specs.declared.reading.Task.{Task}
-use Rattle.dfdl_json.specs.declared.reading.Task.TheVariants.{Read, Item, Array, Close}
+use Rattle.dfdl_json.specs.declared.reading.Task.TheVariants.{Read, Item, Array}
 use Rattle.dfdl_json.proofs.RowValues.{row_is, below_is, flat_map_same, map_same}
 use Rattle.dfdl_json.proofs.Below.{are_below}
 
@@ -215,6 +215,11 @@ pushed_none t elements at entries tasks contents is =
       coming = λ names. ap (λ rows. children_findings t (findings t) rows names entries ++ coming t tasks contents names) (sym none);
       steps = let nothing : children_cost t (cost t) (drop at elements) entries ≡ 0 = ap (λ rows. children_cost t (cost t) rows entries) none in omega (arith, nothing);
     }
+
+-- the member of an element's name is there
+pub found_there : (t : Table) (row : ℕ) (entries : Members) (name : List ℕ) (content : Data) → Some content ≡ get_member name entries → name ≡ name_of t row
+    → get_member (name_of t row) entries ≡ Some content
+found_there t row entries name content is named = ap (λ n. get_member n entries) (sym named) ∙ sym is
 
 -- how the member of an element is read
 abbrev pub reading_if : Bool → ℕ → Task

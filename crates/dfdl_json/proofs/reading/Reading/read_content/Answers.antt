@@ -7,7 +7,7 @@ use Rattle.dfdl_json.specs.Members.{members_in}
 use Rattle.dfdl_json.specs.Paths.{step_to}
 use Rattle.dfdl_json.specs.Reading.{coming, data_at}
 use Rattle.dfdl_json.proofs.Declares.{there, on_ok, on_ok_four, below_elem}
-use Rattle.dfdl_json.proofs.Contents.{left_same, simple_less, complex_less, nil_comes, simple_comes, complex_comes, bare_comes, leaf_says, group_says, skip_says, align_says, initiator_says, terminator_says, separator_says, scope_says, concluded_says, repeat_says, optional_says, choice_says, statement_says, hidden_says, spanned_says, instance_says, separated_says, box_says, prefixed_leaf_says, prefixed_box_says, measured_leaf_says, measured_box_says, counted_says, dispatch_says, no_row_says, less_left}
+use Rattle.dfdl_json.proofs.Contents.{left_same, complex_less, nil_comes, simple_comes, complex_comes, bare_comes, leaf_says, group_says, skip_says, align_says, initiator_says, terminator_says, separator_says, scope_says, concluded_says, repeat_says, optional_says, choice_says, statement_says, hidden_says, spanned_says, instance_says, separated_says, box_says, prefixed_leaf_says, prefixed_box_says, measured_leaf_says, measured_box_says, counted_says, dispatch_says, no_row_says, less_left}
 use Rattle.dfdl_json.proofs.reading.Reading.read_content.Goals as goal
 
 pub returns-then-is_nil-clause-same : goal.returns-then-is_nil-clause-same

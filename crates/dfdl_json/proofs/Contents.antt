@@ -225,6 +225,10 @@ found_there t row entries name content is named = ap (λ n. get_member n entries
 abbrev pub reading_if : Bool → ℕ → Task
 reading_if b row = cond b (Array row) (Read row)
 
+-- the task that is put
+pub task_put : (row : ℕ) (tasks now : List Task) (task : Task) (b : Bool) → now ≡ task ∷ tasks → task ≡ reading_if b row → now ≡ reading_if b row ∷ tasks
+task_put row tasks now task b is task_is = is ∙ ap (λ k. k ∷ tasks) task_is
+
 member_comes : (t : Table) (row : ℕ) (content : Data) (tasks : List Task) (contents : List Data) (names : Names) (b : Bool)
     → coming t (reading_if b row ∷ tasks) (content ∷ contents) names
     ≡ cond b (array_findings (findings t row) (name_of t row) names content) (findings t row None content names) ++ coming t tasks contents names

@@ -84,8 +84,8 @@ items_findings inside around place no_items = []
 items_findings inside around place (one_item content rest) =
     inside (Some place) content around ++ items_findings inside around (suc place) rest
 
--- what content says of an element of this name whose occurrences are items: it is an array of them, and without one the
--- element is absent
+-- what content says of an element of this name whose occurrences are items: it is an array of them; an empty one says nothing,
+-- as if there were no member
 abbrev pub array_findings : (Option ℕ → Data → Names → List Finding) → List ℕ → Names → Data → List Finding
 array_findings inside name around (array items) = items_findings inside around 1 items
 array_findings inside name around null = refused ArrayExpected (name ∷ around) ∷ []
@@ -117,7 +117,7 @@ complex_findings t inside row elements names (number n) = refused ObjectExpected
 complex_findings t inside row elements names (string text) = refused ObjectExpected names ∷ []
 complex_findings t inside row elements names (array items) = refused ObjectExpected names ∷ []
 
--- the content of an element is null, where its nil representation has this primitive: without one it can't be nil
+-- an element with this content is nil: it is null, and the element has a nil representation, of this primitive
 abbrev pub is_nil : Option ℕ → Data → Bool
 is_nil None content = false
 is_nil (Some prim) null = true

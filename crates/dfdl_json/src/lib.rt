@@ -9,6 +9,8 @@
 mod arrays;
 mod chains;
 pub mod children;
+#[cfg(test)]
+mod event_tests;
 mod events;
 pub mod fault;
 mod found;

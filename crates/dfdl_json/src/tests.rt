@@ -1,8 +1,7 @@
 // Infosets of `r`, whose content is in a box behind a prefix. It has `a`, whose content is in a box, with `x` and, in a group
 // inside, `y`, and behind `a` and fill the number `b`, which has a prefix.
-ghost use Rattle.std.specs.Prelude.{◌≡◌, ◌≤◌, IfOk, None, Some, false};
+ghost use Rattle.std.specs.Prelude.{◌≡◌, ◌≤◌, IfOk, None, false};
 ghost use Rattle.dfdl_forms.specs.Types.{form_of};
-ghost use Rattle.dfdl_forms.specs.declared.simple.Simple.TheVariants.{UnsignedByte};
 ghost use Rattle.dfdl_forms.specs.Binary.{most_bits};
 ghost use Rattle.dfdl_terms.specs.Rows.{HasElementLast, IsPrimitive, NamesWithin};
 ghost use Rattle.dfdl_terms.specs.Tables.{Named};
@@ -20,7 +19,7 @@ use dfdl_value::{Simple, TextValue, Value};
 use std::alloc::{AllocError, Global};
 use std::test::Fail;
 
-fn form(bits: u32, kind: Simple) -> Primitive
+pub(crate) fn form(bits: u32, kind: Simple) -> Primitive
     requires some { 1 ≤ bits }
     requires few { bits ≤ most_bits (form_of kind) }
     requires short { bits ≤ 128 }
@@ -35,7 +34,12 @@ fn form(bits: u32, kind: Simple) -> Primitive
     })
 }
 
-fn element(alloc: Global, name: &str, simple: Option<Simple>, body: u32) -> Result<Row, AllocError>
+pub(crate) fn element(
+    alloc: Global,
+    name: &str,
+    simple: Option<Simple>,
+    body: u32,
+) -> Result<Row, AllocError>
     ensures row { IfOk result (λ row. row
         ≡ Elem name.now simple (record {
           nil = None;
@@ -65,7 +69,7 @@ fn element(alloc: Global, name: &str, simple: Option<Simple>, body: u32) -> Resu
     })
 }
 
-fn group(alloc: Global, children: &[RowId]) -> Result<Row, AllocError>
+pub(crate) fn group(alloc: Global, children: &[RowId]) -> Result<Row, AllocError>
     ensures row { IfOk result (λ row. row ≡ Group children.now) }
     ensures within { IfOk result (λ row. (named : Named) → NamesWithin named row) }
 {
@@ -176,7 +180,7 @@ fn event_shown(alloc: Global, terms: &Terms, event: &Event) -> Result<String, Al
     }
 }
 
-fn answer_shown(alloc: Global, terms: &Terms, text: &str) -> Result<String, Fail>
+pub(crate) fn answer_shown(alloc: Global, terms: &Terms, text: &str) -> Result<String, Fail>
     requires { HasElementLast terms.now }
 {
     match events_of_json(alloc, terms, text.as_bytes()) {
@@ -447,101 +451,5 @@ fn a_value_in_memory_is_read(rt: HostRuntime) -> Result<(), Fail> {
     assert_eq!(rt; events.len(), 2);
     let open = OpenElements::new(rt.alloc());
     assert_eq!(rt; open.depth(), 0);
-    Ok(())
-}
-
-// An element of numbers that can be nil.
-fn nillable(alloc: Global, name: &str) -> Result<Row, AllocError>
-    ensures row { IfOk result (λ row. row
-        ≡ Elem name.now (Some UnsignedByte) (record {
-          nil = Some 0;
-          empty = None;
-          refuses_empty = false;
-          are_several = false;
-          where_tried = record { empty = None; refuses_empty = false; are_several = false };
-        }) (record { first = 0; count = 0 }) 0) }
-{
-    Ok(Row::Elem {
-        name: TextValue::from_str(alloc, name)?,
-        simple: Some(Simple::UnsignedByte),
-        tried: Representations {
-            nil: Some(0),
-            empty: None,
-            refuses_empty: false,
-            are_several: false,
-            where_tried: WhereTried {
-                empty: None,
-                refuses_empty: false,
-                are_several: false,
-            },
-        },
-        behind: Statements { first: 0, count: 0 },
-        body: RowId::new(0),
-    })
-}
-
-// The row 8 is the root element, in which `a` stands twice, and behind it `b` and a hidden `c`. In `a` is `x`, which can be nil.
-fn with_array(alloc: Global) -> Result<Terms, Fail>
-    ensures { IfOk result HasElementLast }
-{
-    let byte = Some(Simple::UnsignedByte);
-    let rows = vec![in alloc;
-        Row::Leaf { prim: 0 },
-        nillable(alloc, "x")?,
-        element(alloc, "a", None, 1)?,
-        Row::Repeat {
-            count: 2,
-            body: RowId::new(2)
-        },
-        element(alloc, "b", byte, 0)?,
-        element(alloc, "c", byte, 0)?,
-        Row::Hidden {
-            body: RowId::new(5)
-        },
-        group(alloc, &[RowId::new(3), RowId::new(4), RowId::new(6)])?,
-        element(alloc, "r", None, 7)?,
-    ]?;
-    let forms = vec![in alloc; form(8, Simple::UnsignedByte)]?;
-    let tables = Tables::new(
-        forms,
-        Vec::new(alloc),
-        Vec::new(alloc),
-        NameNumbers::from_vec(Vec::new(alloc)),
-        Vec::new(alloc),
-    );
-    Ok(Terms::build(alloc, rows, tables)?)
-}
-
-#[test]
-fn items_of_arrays_and_nil_elements_give_events(rt: HostRuntime) -> Result<(), Fail> {
-    let terms = with_array(rt.alloc())?;
-    for (text, events) in [
-        (
-            r#"{"r":{"a":[{"x":"1"},{"x":null}],"b":"2"}}"#,
-            "r a x is 1, end, a nil x, end, b is 2, end, ",
-        ),
-        (r#"{"r":{"a":[],"b":"2"}}"#, "r b is 2, end, "),
-    ] {
-        let shown = answer_shown(rt.alloc(), &terms, text)?;
-        assert_eq!(rt; shown.as_str(), events, "{text}");
-    }
-    Ok(())
-}
-
-#[test]
-fn items_are_refused_by_their_places(rt: HostRuntime) -> Result<(), Fail> {
-    let terms = with_array(rt.alloc())?;
-    for (text, refusal) in [
-        (r#"{"r":{"a":{"x":"1"}}}"#, "I5 in /r/a"),
-        (r#"{"r":{"a":[{},"1"],"b":1}}"#, "I4 in /r/a[2]"),
-        (r#"{"r":{"a":[{},null]}}"#, "I8 in /r/a[2]"),
-        (r#"{"r":{"a":[{"y":"1"}]}}"#, "I3 in /r/a[1]"),
-        (r#"{"r":{"a":[{},{"x":"256"}]}}"#, "I7 in /r/a[2]/x"),
-        (r#"{"r":{"a":[{"x":"256"}],"b":["1"]}}"#, "I6 in /r/b"),
-        (r#"{"r":{"c":"1"}}"#, "I3 in /r"),
-    ] {
-        let shown = answer_shown(rt.alloc(), &terms, text)?;
-        assert_eq!(rt; shown.as_str(), refusal, "{text}");
-    }
     Ok(())
 }

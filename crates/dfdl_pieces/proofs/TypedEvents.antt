@@ -25,7 +25,6 @@ mutual
   element_typed t _ _ (complex row name tried behind body inside is fits) =
       All-cons (IsTyped t) (Start row) (inside ++ End ∷ []) tt
       (All-append (IsTyped t) inside (End ∷ []) (inside_typed t _ inside fits) (All-cons (IsTyped t) End [] tt (All-nil (IsTyped t))))
-
   element_typed t _ _ (nil row name type tried behind body prim is some) = All-cons (IsTyped t) (Nil row) [] tt (All-nil (IsTyped t))
 
   pub items_typed : (t : Table) (row : ℕ) (events : List Event) → AreItems t row events → All (IsTyped t) events

@@ -1,0 +1,4 @@
+pub mod Characters
+pub mod Rooms
+pub mod Fields
+pub mod Lengths

@@ -1,0 +1,35 @@
+// Where a value is written, what its writing depends on, and what it is.
+use dfdl_forms::{CharList, EscapeScheme};
+use dfdl_value::ByteValue;
+
+/// The room that the characters of a content have ('Lengths').
+#[derive(Debug, Clone, Copy, PartialEq, Eq)]
+pub enum Room {
+    /// A box of so many bits.
+    Bits(u64),
+    /// A box of so many characters.
+    Characters(u64),
+    /// No box, and no markup that ends it (lengthKind prefixed and pattern).
+    Open,
+    /// No box, and terminating markup ends it (lengthKind delimited).
+    Delimited,
+}
+
+/// What the writing of a text depends on, and its reading doesn't ('Simple Types').
+#[derive(Debug, Drop)]
+pub struct WritingForm {
+    /// The least number of characters of a content without a box (minLength of a string, textOutputMinLength of other text).
+    pub least: u64,
+    /// What `%NL;` is written as (outputNewLine).
+    pub new_line: CharList,
+    /// The escape scheme; its kind is `Absent` where there is none.
+    pub scheme: EscapeScheme,
+}
+
+/// What a value is written as: so many bits, from bit 0 of the bytes on, and behind them so many bits of fill.
+#[derive(Debug, Drop)]
+pub struct Written {
+    pub bytes: ByteValue,
+    pub bits: u64,
+    pub fill: u64,
+}

@@ -1,0 +1,20 @@
+//! What the value of a simple element is written as: its characters, what they are escaped, cut and padded to, their bytes in an
+//! encoding, and the bits of a binary value; or the one cause why there is no such writing.
+//!
+//! The contracts cite `characters` (`specs/Characters.antt`), `content` and `value_bits` (`specs/Contents.antt`), `nil_content`
+//! (`specs/Nils.antt`), `IsNumber`, `ArePacked` and `octets` (`specs/Fields.antt`), and `field_bits` (`specs/Lengths.antt`). It serves
+//! the chapter 'Simple Types' of the DFDL 1.0 specification, GFD.240.
+#![tactic(auto)]
+
+mod binary;
+mod characters;
+mod encoding;
+mod fault;
+mod form;
+mod lengths;
+mod octets;
+mod zoned;
+
+pub use fault::{Unwritten, WritingFault};
+pub use form::{Room, WritingForm, Written};
+pub use lengths::{number_bits, packed_bits, truth_bits};

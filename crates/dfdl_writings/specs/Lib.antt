@@ -1,4 +1,9 @@
-pub mod Characters
+pub mod Told
 pub mod Rooms
+pub mod Characters
+pub mod Cuts
+pub mod Paddings
+pub mod Contents
+pub mod Nils
 pub mod Fields
 pub mod Lengths

@@ -7,14 +7,24 @@
 #![tactic(auto)]
 
 mod binary;
+mod calls;
 mod characters;
+mod contents;
+mod cuts;
 mod encoding;
 mod fault;
 mod form;
 mod lengths;
+mod literal;
+mod nils;
 mod octets;
+mod paddings;
 mod zoned;
 
+pub use calls::{
+    characters_of, content_of, integer_of, nil_bits, nil_octets_of, nil_of, octet_bits, octets_of,
+    packed_of, truth_of, value_bits,
+};
 pub use fault::{Unwritten, WritingFault};
 pub use form::{Room, WritingForm, Written};
 pub use lengths::{number_bits, packed_bits, truth_bits};

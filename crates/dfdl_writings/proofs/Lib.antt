@@ -4,3 +4,4 @@ pub mod Fronts
 pub mod Plain
 pub mod Repeats
 pub mod Literals
+pub mod FieldBits

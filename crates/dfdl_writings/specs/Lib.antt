@@ -5,5 +5,6 @@ pub mod Cuts
 pub mod Paddings
 pub mod Contents
 pub mod Nils
+pub mod Bits
 pub mod Fields
 pub mod Lengths

@@ -1,10 +1,11 @@
 // The bits of binary numbers and booleans.
-ghost use Rattle.std.specs.Prelude.{◌≡◌, ℕ, ◌+◌, ◌*◌, ◌/◌, ◌≤◌, IfOk, length, replicate, [], None, Some, IsErr, OnOk, ◌↔◌};
-ghost use Rattle.dfdl_bits.specs.Bits.{KeepsOutside};
+ghost use Rattle.std.specs.Prelude.{◌≡◌, ℕ, ◌+◌, ◌*◌, ◌/◌, ◌≤◌, ◌<◌, IfOk, slice_index, length, replicate, [], None, Some, IsErr, OnOk, ◌↔◌};
+ghost use Rattle.dfdl_bits.specs.Bits.{data_bit, KeepsOutside};
 ghost use Rattle.dfdl_forms.specs.BinaryNumbers.{IsIntForm, IsPackedForm, IsTruthForm};
 ghost use Rattle.dfdl_forms.specs.declared.order.BitOrder.{BitOrder};
 ghost use Rattle.dfdl_int_binary.specs.Truths.{truth_field_of};
-ghost use Rattle.dfdl_writings.specs.Fields.{IsField, IsInteger, IsPacked, IsTruth, truth_number};
+ghost use Rattle.dfdl_writings.specs.Bits.{field};
+ghost use Rattle.dfdl_writings.specs.Fields.{integer, packed, truth, truth_number};
 
 use crate::fault::Unwritten;
 use crate::form::Written;
@@ -23,12 +24,20 @@ fn zeros(alloc: Global, bits: u32) -> Result<Vec<u8>, AllocError>
     Ok(bytes)
 }
 
+// Each byte is below 256. The call does nothing.
+fn bytes_are_small(bytes: &[u8])
+    ensures { (k : ℕ) → slice_index bytes.now k < 256 }
+{
+    let _bytes = bytes;
+}
+
 // A field of so many bits that was written over zeros.
 fn field(bytes: Vec<u8>, bits: u32) -> Written
-    ensures field { (order : BitOrder) → length bytes.items ≡ (bits + 7) / 8 → KeepsOutside order (replicate ((bits + 7) / 8) 0) bytes.items 0 bits
-        → IsField order bits result }
-    ensures bytes { result.bytes ≡ bytes.items }
+    ensures { (order : BitOrder) (bit : ℕ → ℕ) → length bytes.items ≡ (bits + 7) / 8
+        → KeepsOutside order (replicate ((bits + 7) / 8) 0) bytes.items 0 bits
+        → ((i : ℕ) → i < bits → data_bit order bytes.items i ≡ bit i) → result ≡ field order bits bit }
 {
+    bytes_are_small(&bytes);
     Written {
         bytes: ByteValue::from_vec(bytes),
         bits: u64::from(bits),
@@ -43,7 +52,7 @@ pub(crate) fn integer(
     value: &Value,
 ) -> Result<Result<Written, Unwritten>, AllocError>
     requires { IsIntForm form.now }
-    ensures { IfOk result (λ told. IsInteger form.now value.now told) }
+    ensures { IfOk result (λ told. told ≡ integer form.now value.now) }
 {
     let mut bytes = zeros(alloc, form.bits)?;
     match dfdl_int_binary::write(value, form, bytes.as_mut_slice(), 0) {
@@ -59,7 +68,7 @@ pub(crate) fn packed(
     value: &Value,
 ) -> Result<Result<Written, Unwritten>, AllocError>
     requires { IsPackedForm form.now }
-    ensures { IfOk result (λ told. IsPacked form.now value.now told) }
+    ensures { IfOk result (λ told. told ≡ packed form.now value.now) }
 {
     let bits = 4 * form.nibbles;
     let mut bytes = zeros(alloc, bits)?;
@@ -90,7 +99,7 @@ pub(crate) fn truth(
     value: &Value,
 ) -> Result<Result<Written, Unwritten>, AllocError>
     requires { IsTruthForm form.now }
-    ensures { IfOk result (λ told. IsTruth form.now value.now told) }
+    ensures { IfOk result (λ told. told ≡ truth form.now value.now) }
 {
     let mut bytes = zeros(alloc, form.bits)?;
     match put_truth(value, form, bytes.as_mut_slice()) {

@@ -6,7 +6,7 @@ ghost use Rattle.dfdl_forms.specs.BinaryNumbers.{IsIntForm, IsPackedForm, IsTrut
 ghost use Rattle.dfdl_terms.specs.Rows.{IsTextContent, IsTextForm, most_length};
 ghost use Rattle.dfdl_writings.specs.Characters.{characters};
 ghost use Rattle.dfdl_writings.specs.Contents.{content, value_bits};
-ghost use Rattle.dfdl_writings.specs.Fields.{IsInteger, IsPacked, IsTruth, octets};
+ghost use Rattle.dfdl_writings.specs.Fields.{integer, octets, packed, truth};
 ghost use Rattle.dfdl_writings.specs.Lengths.{octet_bits};
 ghost use Rattle.dfdl_writings.specs.Nils.{nil_bits, nil_content, nil_octets};
 ghost use Rattle.dfdl_writings.specs.Rooms.{IsRoom};
@@ -131,7 +131,7 @@ pub fn nil_bits(
 /// The bits of a binary integer or decimal.
 pub fn integer_of(alloc: Global, form: &IntForm, value: &Value) -> Result<Written, WritingFault>
     requires { IsIntForm form.now }
-    ensures { IfTold result (λ told. IsInteger form.now value.now told) }
+    ensures { IfTold result (λ told. told ≡ integer form.now value.now) }
 {
     match binary::integer(alloc, form, value) {
         Ok(Ok(written)) => Ok(written),
@@ -143,7 +143,7 @@ pub fn integer_of(alloc: Global, form: &IntForm, value: &Value) -> Result<Writte
 /// The bits of a packed, BCD or IBM 4690 packed number.
 pub fn packed_of(alloc: Global, form: &PackedForm, value: &Value) -> Result<Written, WritingFault>
     requires { IsPackedForm form.now }
-    ensures { IfTold result (λ told. IsPacked form.now value.now told) }
+    ensures { IfTold result (λ told. told ≡ packed form.now value.now) }
 {
     match binary::packed(alloc, form, value) {
         Ok(Ok(written)) => Ok(written),
@@ -155,7 +155,7 @@ pub fn packed_of(alloc: Global, form: &PackedForm, value: &Value) -> Result<Writ
 /// The bits of a binary boolean.
 pub fn truth_of(alloc: Global, form: &BitTruthForm, value: &Value) -> Result<Written, WritingFault>
     requires { IsTruthForm form.now }
-    ensures { IfTold result (λ told. IsTruth form.now value.now told) }
+    ensures { IfTold result (λ told. told ≡ truth form.now value.now) }
 {
     match binary::truth(alloc, form, value) {
         Ok(Ok(written)) => Ok(written),

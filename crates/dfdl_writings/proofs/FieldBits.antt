@@ -112,8 +112,9 @@ byte_is LeastFirst bytes k small = least_any bytes (8 * k) 8 Big ∙ (least-byte
 bit_is : (order : BitOrder) (len : ℕ) (bytes : List ℕ) (bit : ℕ → ℕ) → ((i : ℕ) → i < len → data_bit order bytes i ≡ bit i)
     → ((k : ℕ) → len ≤ k → data_bit order bytes k ≡ 0) → (k : ℕ) → data_bit order bytes k ≡ bit_or_zero len bit k
 bit_is order len bytes bit is zeros k = elim (cases_lt k len) [
-  inl below ↦ is k below ∙ sym (cond-true _ _ _ (lt-ltb k len below))
-  | inr past ↦ zeros k past ∙ sym (cond-false _ _ _ (le-ltb k len past)) ]
+  | inl below ↦ is k below ∙ sym (cond-true _ _ _ (lt-ltb k len below))
+  | inr past ↦ zeros k past ∙ sym (cond-false _ _ _ (le-ltb k len past))
+]
 
 -- bytes with these bits, and zeros behind them
 pub bytes_are : (order : BitOrder) (len : ℕ) (bytes : List ℕ) (bit : ℕ → ℕ) → length bytes ≡ (len + 7) / 8 → ((k : ℕ) → get_or bytes k 0 < 256)
@@ -133,8 +134,9 @@ zero_count count = length-replicate count _
 
 zero_at : (count j : ℕ) → get_or (zeros count) j 0 ≡ 0
 zero_at count j = elim (cases_lt j count) [
-  inl below ↦ get_or-replicate count j 0 0 below
-  | inr past ↦ get_or_past (zeros count) j 0 (omega (arith, past, zero_count count)) ]
+  | inl below ↦ get_or-replicate count j 0 0 below
+  | inr past ↦ get_or_past (zeros count) j 0 (omega (arith, past, zero_count count))
+]
 
 zero_bit : (order : BitOrder) (count k : ℕ) → data_bit order (zeros count) k ≡ 0
 zero_bit order count k =

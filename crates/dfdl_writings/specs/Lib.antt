@@ -8,3 +8,4 @@ pub mod Nils
 pub mod Bits
 pub mod Fields
 pub mod Lengths
+pub mod Binary

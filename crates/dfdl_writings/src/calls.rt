@@ -3,21 +3,21 @@ ghost use Rattle.std.specs.Prelude.{◌≡◌, ◌≤◌, List};
 ghost use Rattle.dfdl_delims.specs.Lists.{Opened};
 ghost use Rattle.dfdl_delims.specs.Opening.{Opens};
 ghost use Rattle.dfdl_forms.specs.BinaryNumbers.{IsIntForm, IsPackedForm, IsTruthForm};
-ghost use Rattle.dfdl_terms.specs.Rows.{IsTextContent, IsTextForm, most_length};
+ghost use Rattle.dfdl_terms.specs.Rows.{IsPrimitive, IsTextContent, IsTextForm, most_length};
+ghost use Rattle.dfdl_writings.specs.Binary.{binary, binary_bits};
 ghost use Rattle.dfdl_writings.specs.Characters.{characters};
 ghost use Rattle.dfdl_writings.specs.Contents.{content, value_bits};
 ghost use Rattle.dfdl_writings.specs.Fields.{integer, octets, packed, truth};
-ghost use Rattle.dfdl_writings.specs.Lengths.{octet_bits};
 ghost use Rattle.dfdl_writings.specs.Nils.{nil_bits, nil_content, nil_octets};
 ghost use Rattle.dfdl_writings.specs.Rooms.{IsRoom};
 ghost use Rattle.dfdl_writings.specs.Told.{IfTold};
 
 use crate::fault::WritingFault;
 use crate::form::{Room, WritingForm, Written};
-use crate::{binary, characters, contents, nils, octets};
+use crate::{binary, characters, contents, fields, nils, octets};
 use dfdl_delims::OpenLists;
 use dfdl_forms::{BitTruthForm, CharList, Encoding, IntForm, PackedForm, PadForm};
-use dfdl_terms::{NilForm, NilOctets, OctetForm, TextContent, TextForm};
+use dfdl_terms::{NilForm, NilOctets, OctetForm, Primitive, TextContent, TextForm};
 use dfdl_value::Value;
 use std::alloc::Global;
 
@@ -133,7 +133,7 @@ pub fn integer_of(alloc: Global, form: &IntForm, value: &Value) -> Result<Writte
     requires { IsIntForm form.now }
     ensures { IfTold result (λ told. told ≡ integer form.now value.now) }
 {
-    match binary::integer(alloc, form, value) {
+    match fields::integer(alloc, form, value) {
         Ok(Ok(written)) => Ok(written),
         Ok(Err(cause)) => Err(WritingFault::Unwritten(cause)),
         Err(_) => Err(WritingFault::OutOfMemory),
@@ -145,7 +145,7 @@ pub fn packed_of(alloc: Global, form: &PackedForm, value: &Value) -> Result<Writ
     requires { IsPackedForm form.now }
     ensures { IfTold result (λ told. told ≡ packed form.now value.now) }
 {
-    match binary::packed(alloc, form, value) {
+    match fields::packed(alloc, form, value) {
         Ok(Ok(written)) => Ok(written),
         Ok(Err(cause)) => Err(WritingFault::Unwritten(cause)),
         Err(_) => Err(WritingFault::OutOfMemory),
@@ -157,7 +157,7 @@ pub fn truth_of(alloc: Global, form: &BitTruthForm, value: &Value) -> Result<Wri
     requires { IsTruthForm form.now }
     ensures { IfTold result (λ told. told ≡ truth form.now value.now) }
 {
-    match binary::truth(alloc, form, value) {
+    match fields::truth(alloc, form, value) {
         Ok(Ok(written)) => Ok(written),
         Ok(Err(cause)) => Err(WritingFault::Unwritten(cause)),
         Err(_) => Err(WritingFault::OutOfMemory),
@@ -175,11 +175,29 @@ pub fn octets_of(alloc: Global, form: &OctetForm, value: &Value) -> Result<Writt
     }
 }
 
-/// How many bits a hexBinary has without a box.
-pub fn octet_bits(value: &Value) -> Result<u64, WritingFault>
-    ensures { IfTold result (λ told. told ≡ octet_bits value.now) }
+/// The bits of a value by the primitive of its row, in a box of the size that the primitive has. A primitive of another kind writes
+/// none.
+pub fn binary_of(
+    alloc: Global,
+    primitive: &Primitive,
+    value: &Value,
+) -> Result<Written, WritingFault>
+    requires { IsPrimitive primitive.now }
+    ensures { IfTold result (λ told. told ≡ binary primitive.now value.now) }
 {
-    match octets::octet_bits(value) {
+    match binary::binary(alloc, primitive, value) {
+        Ok(Ok(written)) => Ok(written),
+        Ok(Err(cause)) => Err(WritingFault::Unwritten(cause)),
+        Err(_) => Err(WritingFault::OutOfMemory),
+    }
+}
+
+/// How many bits a value has where no box bounds them, and a prefix tells their number.
+pub fn binary_bits(primitive: &Primitive, value: &Value) -> Result<u64, WritingFault>
+    requires { IsPrimitive primitive.now }
+    ensures { IfTold result (λ told. told ≡ binary_bits primitive.now value.now) }
+{
+    match binary::binary_bits(primitive, value) {
         Ok(Ok(bits)) => Ok(bits),
         Ok(Err(cause)) => Err(WritingFault::Unwritten(cause)),
         Err(_) => Err(WritingFault::OutOfMemory),

@@ -11,7 +11,7 @@ use dfdl_forms::{PackedForm, Simple};
 use dfdl_value::{Form, Value};
 
 /// How many bits a binary integer or decimal has without a box: those of its type, and 128 for a decimal; 0 for any other type.
-pub fn number_bits(kind: Simple) -> u64
+pub(crate) fn number_bits(kind: Simple) -> u64
     ensures { result ≡ most_bits (form_of kind) }
 {
     match kind.form() {
@@ -22,7 +22,7 @@ pub fn number_bits(kind: Simple) -> u64
 }
 
 /// How many bits a binary boolean has without a box.
-pub fn truth_bits() -> u64
+pub(crate) fn truth_bits() -> u64
     ensures { result ≡ truth_bits }
 {
     32
@@ -81,7 +81,7 @@ fn first_count(form: &PackedForm, value: &Value, most: u32) -> Option<u32>
 }
 
 /// How many bits a packed, BCD or IBM 4690 packed number has without a box: those of the fewest whole bytes that hold it.
-pub fn packed_bits(form: &PackedForm, value: &Value) -> Result<u64, Unwritten>
+pub(crate) fn packed_bits(form: &PackedForm, value: &Value) -> Result<u64, Unwritten>
     requires { IsPackedForm form.now }
     ensures { result ≡ packed_bits form.now value.now }
 {

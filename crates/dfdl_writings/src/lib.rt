@@ -2,8 +2,8 @@
 //! encoding, and the bits of a binary value; or the one cause why there is no such writing.
 //!
 //! The contracts cite `characters` (`specs/Characters.antt`), `content` and `value_bits` (`specs/Contents.antt`), `nil_content`
-//! (`specs/Nils.antt`), `IsNumber`, `ArePacked` and `octets` (`specs/Fields.antt`), and `field_bits` (`specs/Lengths.antt`). It serves
-//! the chapter 'Simple Types' of the DFDL 1.0 specification, GFD.240.
+//! (`specs/Nils.antt`), and `binary` and `binary_bits` (`specs/Binary.antt`). It serves the chapter 'Simple Types' of the DFDL 1.0
+//! specification, GFD.240.
 #![tactic(auto)]
 
 mod binary;
@@ -13,18 +13,20 @@ mod contents;
 mod cuts;
 mod encoding;
 mod fault;
+mod fields;
 mod form;
 mod lengths;
 mod literal;
 mod nils;
 mod octets;
 mod paddings;
+#[cfg(test)]
+mod tests;
 mod zoned;
 
 pub use calls::{
-    characters_of, content_of, integer_of, nil_bits, nil_octets_of, nil_of, octet_bits, octets_of,
-    packed_of, truth_of, value_bits,
+    binary_bits, binary_of, characters_of, content_of, integer_of, nil_bits, nil_octets_of, nil_of,
+    octets_of, packed_of, truth_of, value_bits,
 };
 pub use fault::{Unwritten, WritingFault};
 pub use form::{Room, WritingForm, Written};
-pub use lengths::{number_bits, packed_bits, truth_bits};

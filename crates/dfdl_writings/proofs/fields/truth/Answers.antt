@@ -7,7 +7,7 @@ use Rattle.dfdl_writings.proofs.Vecs.{written_over, kept_of}
 use Rattle.dfdl_writings.specs.Bits.{number_bit}
 use Rattle.dfdl_writings.specs.Fields.{number_field}
 use Rattle.dfdl_writings.specs.declared.fault.Unwritten.TheVariants.{Boolean}
-use Rattle.dfdl_writings.proofs.binary.truth.Goals as goal
+use Rattle.dfdl_writings.proofs.fields.truth.Goals as goal
 
 pub returns-in-Ok : goal.returns-in-Ok
 returns-in-Ok c =

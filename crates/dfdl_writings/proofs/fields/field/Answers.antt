@@ -1,6 +1,6 @@
 use Rattle.std.proofs.Common.{ℕ, ◌<◌, get_or, ap, subst, ◌∙◌}
 use Rattle.dfdl_writings.proofs.FieldBits.{field_is, in_bytes}
-use Rattle.dfdl_writings.proofs.binary.field.Goals as goal
+use Rattle.dfdl_writings.proofs.fields.field.Goals as goal
 
 pub returns : goal.returns
 returns c = λ order bit long kept is.

@@ -5,3 +5,5 @@ pub mod Plain
 pub mod Repeats
 pub mod Literals
 pub mod FieldBits
+pub mod Sizes
+pub mod Fills

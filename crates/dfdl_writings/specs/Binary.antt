@@ -1,5 +1,5 @@
 -- What a value is written as in bits, by the primitive of its row. 'Simple Types' (binary representation).
-use Rattle.std.specs.Prelude.{ℕ, Result, Ok, Err}
+use Rattle.std.specs.Prelude.{ℕ, ◌*◌, Result, Ok, Err}
 use Rattle.dfdl_forms.specs.Binary.{most_bits}
 use Rattle.dfdl_forms.specs.Types.{form_of}
 use Rattle.dfdl_value.specs.declared.value.Value.{Value}
@@ -35,3 +35,15 @@ binary_bits (NilOctets form) value = Err BinaryForm
 binary_bits (Default form) value = Err BinaryForm
 binary_bits (NilValues form) value = Err BinaryForm
 binary_bits (Pattern form) value = Err BinaryForm
+
+-- how many bits the box of a primitive has
+abbrev pub box_bits : Primitive → ℕ
+box_bits (Integer form) = form.bits
+box_bits (Packed form) = 4 * form.nibbles
+box_bits (Truth form) = form.bits
+box_bits (Octets form) = form.bits
+box_bits (Text form) = 0
+box_bits (NilOctets form) = form.octets.bits
+box_bits (Default form) = 0
+box_bits (NilValues form) = 0
+box_bits (Pattern form) = 0

@@ -15,6 +15,7 @@ mod encoding;
 mod fault;
 mod fields;
 mod form;
+pub mod laws;
 mod lengths;
 mod literal;
 mod nils;

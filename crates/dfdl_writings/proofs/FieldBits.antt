@@ -1,12 +1,11 @@
 -- The bits of a field by its number.
-use Rattle.std.proofs.Common.{◌≡◌, ℕ, ◌+◌, ◌-◌, ◌*◌, ◌/◌, ◌%◌, ◌^◌, ◌<◌, ◌≤◌, min, List, length, get_or, map, replicate, refl, sym, ap, ◌∙◌, arith, inl, inr, mod-eq_of_lt}
+use Rattle.std.proofs.Common.{◌≡◌, ℕ, ◌+◌, ◌-◌, ◌*◌, ◌/◌, ◌%◌, ◌^◌, ◌<◌, ◌≤◌, min, List, length, get_or, replicate, sym, ap, ◌∙◌, arith, inl, inr, mod-eq_of_lt}
 use Rattle.std.proofs.lemmas.Bool.{cases_lt, cond-true, cond-false, lt-ltb, le-ltb}
 use Rattle.std.proofs.lemmas.List.FromFn.{fill_by_all, get_or-map-range_with_len}
 use Rattle.std.proofs.lemmas.List.{get_or_past, get_or-replicate, length-replicate}
 use Rattle.std.proofs.lemmas.Nat.Bits.{bit_at-zero, bit_at_cat_low, bit_at_cat_high}
 use Rattle.std.specs.Int.{bit_at}
-use Rattle.std.specs.List.{range_with_len}
-use Rattle.dfdl_bits.specs.Bits.{data_bit, group_len, KeepsOutside, number_of, place_of, sum_below, weight_of}
+use Rattle.dfdl_bits.specs.Bits.{data_bit, group_len, KeepsOutside, number_of, place_of, weight_of}
 use Rattle.dfdl_bits.proofs.Numbers.{big-byte, big-one, groups-split, least-byte, least-one, least_any, number_below, one_group}
 use Rattle.dfdl_bits.proofs.Sums.{sum_below-same}
 use Rattle.dfdl_bits.proofs.Words.{big_part, least_part}

@@ -1,6 +1,6 @@
 -- A text without an escape scheme.
-use Rattle.std.proofs.Common.{◌≡◌, ℕ, List, [], ◌∷◌, Option, Some, refl, ap, subst, sym, ◌∙◌}
-use Rattle.std.specs.Prelude.{Result, Ok, Err}
+use Rattle.std.proofs.Common.{◌≡◌, ℕ, List, [], ◌∷◌, Some, refl, ap, ◌∙◌}
+use Rattle.std.specs.Prelude.{Ok}
 use Rattle.std.specs.Option.{ok_or}
 use Rattle.dfdl_delims.specs.Lists.{Opened}
 use Rattle.dfdl_escapes.specs.Written.{placed, plain_text, written, written_by}

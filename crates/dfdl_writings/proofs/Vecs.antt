@@ -1,5 +1,5 @@
 -- A Vec that was written over as a slice.
-use Rattle.std.proofs.Common.{◌≡◌, ℕ, List, [], ◌++◌, length, take, drop, sym, ap, subst, ◌∙◌, arith}
+use Rattle.std.proofs.Common.{◌≡◌, ℕ, List, [], ◌++◌, length, take, drop, ap, subst, ◌∙◌, arith}
 use Rattle.std.proofs.lemmas.List.{append-nil, take_all, drop_all}
 use Rattle.dfdl_bits.specs.Bits.{KeepsOutside}
 use Rattle.dfdl_forms.specs.declared.order.BitOrder.{BitOrder}

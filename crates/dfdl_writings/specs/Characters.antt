@@ -1,5 +1,5 @@
 -- What characters a value is written as, before they are escaped, cut and padded. 'Simple Types' (text representation).
-use Rattle.std.specs.Prelude.{ℕ, ◌/◌, List, Option, None, Some, Result, Ok, Err}
+use Rattle.std.specs.Prelude.{ℕ, ◌/◌, List, Result, Ok, Err}
 use Rattle.std.specs.Option.{ok_or}
 use Rattle.std.specs.Str.{chars}
 use Rattle.dfdl_forms.specs.declared.encoding.Encoding.{Encoding}

@@ -1,5 +1,5 @@
 -- What is kept of the characters of a value in the room that they have. 'Simple Types' (truncateSpecifiedLengthString).
-use Rattle.std.specs.Prelude.{ℕ, suc, ◌-◌, ◌*◌, Bool, true, false, nat_le, List, [], ◌∷◌, length, take, drop, reverse, Result, Ok, Err, if◌then◌else◌}
+use Rattle.std.specs.Prelude.{ℕ, suc, ◌-◌, ◌*◌, Bool, false, nat_le, List, [], ◌∷◌, length, take, drop, reverse, Result, Ok, Err, if◌then◌else◌}
 use Rattle.dfdl_chars.specs.Encodings.{width_in}
 use Rattle.dfdl_forms.specs.declared.encoding.Encoding.{Encoding}
 use Rattle.dfdl_forms.specs.declared.text.Justify.{Justify}

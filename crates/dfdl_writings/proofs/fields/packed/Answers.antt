@@ -1,4 +1,4 @@
-use Rattle.std.proofs.Common.{◌≡◌, ◌*◌, length, Ok, sym, ap, ◌∙◌}
+use Rattle.std.proofs.Common.{◌≡◌, length, Ok, sym, ap, ◌∙◌}
 use Rattle.std.proofs.lemmas.List.{length-replicate}
 use Rattle.dfdl_bits.specs.Bits.{data_bit}
 use Rattle.dfdl_packed.specs.Packed.{nibbles_in}

@@ -1,4 +1,4 @@
-use Rattle.std.proofs.Common.{◌≡◌, ◌<◌, ◌≤◌, ◌-◌, ◌+◌, ◌∙◌, sym, ap, arith}
+use Rattle.std.proofs.Common.{◌≡◌, ◌<◌, ◌-◌, ◌+◌, ◌∙◌, sym, ap, arith}
 use Rattle.dfdl_writings.specs.Lengths.{first_count}
 use Rattle.dfdl_writings.proofs.Counts.{found, further, none}
 use Rattle.dfdl_writings.proofs.lengths.first_count.Goals as goal

@@ -1,5 +1,10 @@
 // Where a value is written, what its writing depends on, and what it is.
+ghost use Rattle.std.specs.Prelude.{◌≡◌};
+ghost use Rattle.dfdl_terms.specs.Rows.{IsTextSize};
+ghost use Rattle.dfdl_writings.specs.Rooms.{room_of, IsRoom};
+
 use dfdl_forms::{CharList, EscapeScheme};
+use dfdl_terms::TextSize;
 use dfdl_value::ByteValue;
 
 /// The room that the characters of a content have ('Lengths').
@@ -13,6 +18,18 @@ pub enum Room {
     Open,
     /// No box, and terminating markup ends it (lengthKind delimited).
     Delimited,
+}
+
+/// The room of a content of this size.
+pub fn room_of(size: TextSize) -> Room
+    ensures room { result ≡ room_of size }
+    ensures bounded { IsTextSize size → IsRoom result }
+{
+    match size {
+        TextSize::Bits(bits) => Room::Bits(bits),
+        TextSize::Characters(count) => Room::Characters(count),
+        TextSize::Delimited(_) => Room::Delimited,
+    }
 }
 
 /// What the writing of a text depends on, and its reading doesn't ('Simple Types').

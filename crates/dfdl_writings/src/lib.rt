@@ -30,4 +30,4 @@ pub use calls::{
     octets_of, packed_of, truth_of, value_bits,
 };
 pub use fault::{Unwritten, WritingFault};
-pub use form::{Room, WritingForm, Written};
+pub use form::{Room, WritingForm, Written, room_of};

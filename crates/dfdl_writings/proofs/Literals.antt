@@ -5,7 +5,7 @@ use Rattle.dfdl_lemmas.proofs.Lists.{left_at}
 use Rattle.dfdl_chars.specs.Encodings.{joined}
 use Rattle.dfdl_forms.specs.declared.encoding.Encoding.{Encoding}
 use Rattle.dfdl_forms.specs.declared.literals.Piece.{Piece}
-use Rattle.dfdl_writings.specs.Nils.{literal_bytes, literal_count, piece_bytes, piece_characters}
+use Rattle.dfdl_writings.specs.Literals.{literal_bytes, literal_count, piece_bytes, piece_characters}
 
 joined_more : (old bytes : List ℕ) (rest : Option (List ℕ)) → joined (Some old) (joined (Some bytes) rest) ≡ joined (Some (old ++ bytes)) rest
 joined_more old bytes None = refl

@@ -4,8 +4,11 @@ pub mod Characters
 pub mod Cuts
 pub mod Paddings
 pub mod Contents
+pub mod Literals
 pub mod Nils
+pub mod Delimiters
 pub mod Bits
 pub mod Fields
 pub mod Lengths
 pub mod Binary
+pub mod Prefixes

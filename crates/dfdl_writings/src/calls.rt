@@ -7,17 +7,19 @@ ghost use Rattle.dfdl_terms.specs.Rows.{IsPrimitive, IsTextContent, IsTextForm, 
 ghost use Rattle.dfdl_writings.specs.Binary.{binary, binary_bits};
 ghost use Rattle.dfdl_writings.specs.Characters.{characters};
 ghost use Rattle.dfdl_writings.specs.Contents.{content, value_bits};
+ghost use Rattle.dfdl_writings.specs.Delimiters.{delimiter};
 ghost use Rattle.dfdl_writings.specs.Fields.{integer, octets, packed, truth};
 ghost use Rattle.dfdl_writings.specs.Nils.{nil_bits, nil_content, nil_octets};
+ghost use Rattle.dfdl_writings.specs.Prefixes.{prefix};
 ghost use Rattle.dfdl_writings.specs.Rooms.{IsRoom};
 ghost use Rattle.dfdl_writings.specs.Told.{IfTold};
 
 use crate::fault::WritingFault;
 use crate::form::{Room, WritingForm, Written};
-use crate::{binary, characters, contents, fields, nils, octets};
+use crate::{binary, characters, contents, delimiter, fields, nils, octets, prefixes};
 use dfdl_delims::OpenLists;
 use dfdl_forms::{BitTruthForm, CharList, Encoding, IntForm, PackedForm, PadForm};
-use dfdl_terms::{NilForm, NilOctets, OctetForm, Primitive, TextContent, TextForm};
+use dfdl_terms::{Delimiters, NilForm, NilOctets, OctetForm, Primitive, TextContent, TextForm};
 use dfdl_value::Value;
 use std::alloc::Global;
 
@@ -199,6 +201,40 @@ pub fn binary_bits(primitive: &Primitive, value: &Value) -> Result<u64, WritingF
 {
     match binary::binary_bits(primitive, value) {
         Ok(Ok(bits)) => Ok(bits),
+        Ok(Err(cause)) => Err(WritingFault::Unwritten(cause)),
+        Err(_) => Err(WritingFault::OutOfMemory),
+    }
+}
+
+/// What an initiator, terminator or separator is written as: the first literal of its list, with this line break for `%NL;`. A list
+/// without a literal is written as nothing.
+pub fn delimiter_of(
+    alloc: Global,
+    new_line: &CharList,
+    delimiters: &Delimiters,
+) -> Result<Written, WritingFault>
+    ensures { IfTold result (λ told. told ≡ delimiter new_line.now delimiters.now) }
+{
+    match delimiter::delimiter(alloc, new_line.as_slice(), delimiters) {
+        Ok(Ok(written)) => Ok(written),
+        Ok(Err(cause)) => Err(WritingFault::Unwritten(cause)),
+        Err(_) => Err(WritingFault::OutOfMemory),
+    }
+}
+
+/// What a length prefix is written as by its primitive, in the box of that: it tells so many units, as `units_of` counts them. Where they
+/// are no whole number, where the type of the prefix has no such value, and where its primitive can't write that, the prefix is the cause.
+pub fn prefix_of(
+    alloc: Global,
+    writing: &WritingForm,
+    primitive: &Primitive,
+    units: Option<u128>,
+) -> Result<Written, WritingFault>
+    requires { IsPrimitive primitive.now }
+    ensures { IfTold result (λ told. told ≡ prefix writing.now primitive.now units) }
+{
+    match prefixes::prefix(alloc, writing, primitive, units) {
+        Ok(Ok(written)) => Ok(written),
         Ok(Err(cause)) => Err(WritingFault::Unwritten(cause)),
         Err(_) => Err(WritingFault::OutOfMemory),
     }

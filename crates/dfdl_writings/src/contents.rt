@@ -1,12 +1,13 @@
 // What the value of a simple element is written as in text.
-ghost use Rattle.std.specs.Prelude.{◌≡◌, ◌*◌, List, IfOk, IsSome, Ok, Some, None};
+ghost use Rattle.std.specs.Prelude.{◌≡◌, ◌*◌, List, [], IfOk, IsSome, Ok, Some, None};
 ghost use Rattle.std.specs.Option.{ok_or};
 ghost use Rattle.dfdl_chars.specs.Encodings.{encoded_text};
 ghost use Rattle.dfdl_delims.specs.Lists.{Opened};
 ghost use Rattle.dfdl_delims.specs.Opening.{Opens};
 ghost use Rattle.dfdl_escapes.specs.Written.{written};
-ghost use Rattle.dfdl_terms.specs.Rows.{IsTextForm};
+ghost use Rattle.dfdl_terms.specs.Rows.{IsTextForm, IsTextSize};
 ghost use Rattle.dfdl_writings.specs.Contents.{bits_of, content, content_of, escaped, fitted, laid, value_bits};
+ghost use Rattle.dfdl_writings.specs.Prefixes.{unended_room};
 ghost use Rattle.dfdl_writings.specs.Rooms.{IsRoom};
 ghost use Rattle.dfdl_writings.specs.declared.fault.Unwritten.TheVariants.{Escape};
 
@@ -21,7 +22,7 @@ use dfdl_delims::OpenLists;
 use dfdl_escapes::escape;
 use dfdl_escapes::refusal::Refusal;
 use dfdl_forms::{CharList, Encoding, EscapeKind, EscapeScheme};
-use dfdl_terms::TextForm;
+use dfdl_terms::{TextForm, TextSize};
 use dfdl_value::Value;
 use std::alloc::{AllocError, Global};
 
@@ -186,6 +187,51 @@ pub(crate) fn content(
 {
     match characters_of(alloc, form.encoding, room, &form.content, value)? {
         Ok(characters) => content_of(alloc, writing, form, room, lists, characters),
+        Err(cause) => Ok(Err(cause)),
+    }
+}
+
+// The room of a text of this size that no markup ends.
+fn unended_room(size: TextSize) -> Room
+    ensures room { result ≡ unended_room size }
+    ensures bounded { IsTextSize size → IsRoom result }
+{
+    match size {
+        TextSize::Bits(bits) => Room::Bits(bits),
+        TextSize::Characters(count) => Room::Characters(count),
+        TextSize::Delimited(_) => Room::Open,
+    }
+}
+
+// What characters are written as that no markup ends.
+fn unescaped(
+    alloc: Global,
+    writing: &WritingForm,
+    form: &TextForm,
+    characters: CharList,
+) -> Result<Result<Written, Unwritten>, AllocError>
+    requires { IsTextForm form.now }
+    ensures { IfOk result (λ told. told ≡ content_of writing.now form.now (unended_room form.now.size) [] (Ok characters)) }
+{
+    match encoded(alloc, form.encoding, characters.as_slice())? {
+        Some(_) => fitted(alloc, writing, form, unended_room(form.size), characters),
+        None => Ok(Err(Unwritten::NotInEncoding)),
+    }
+}
+
+/// What a value is written as in the box of its form. No markup ends it, so it isn't escaped.
+pub(crate) fn unended(
+    alloc: Global,
+    writing: &WritingForm,
+    form: &TextForm,
+    value: &Value,
+) -> Result<Result<Written, Unwritten>, AllocError>
+    requires { IsTextForm form.now }
+    ensures { IfOk result (λ told. told ≡ content writing.now form.now (unended_room form.now.size) [] value.now) }
+{
+    let room = unended_room(form.size);
+    match characters_of(alloc, form.encoding, room, &form.content, value)? {
+        Ok(characters) => unescaped(alloc, writing, form, characters),
         Err(cause) => Ok(Err(cause)),
     }
 }

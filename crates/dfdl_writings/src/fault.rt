@@ -19,6 +19,9 @@ pub enum Unwritten {
     /// 5: the encoding lacks a character.
     #[error("character not in the encoding")]
     NotInEncoding,
+    /// 7: a length is no whole number of units, or the prefix that tells it can't hold it.
+    #[error("prefix does not fit")]
+    Prefix,
     /// 9: a boolean is longer than its box, or its field can't hold its number.
     #[error("boolean does not fit")]
     Boolean,

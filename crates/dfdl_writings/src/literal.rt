@@ -1,6 +1,6 @@
-// What a literal of nil is written as.
+// What a literal of a schema is written as.
 ghost use Rattle.std.specs.Prelude.{◌≡◌, ◌+◌, ◌<◌, ◌≤◌, IfOk, length};
-ghost use Rattle.dfdl_writings.specs.Nils.{first_literal, literal_bytes, literal_count, piece_bytes, piece_characters};
+ghost use Rattle.dfdl_writings.specs.Literals.{first_literal, literal_bytes, literal_count, piece_bytes, piece_characters};
 
 use crate::encoding::encoded;
 use dfdl_forms::{Encoding, Literals, Piece};

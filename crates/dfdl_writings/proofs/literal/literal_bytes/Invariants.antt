@@ -1,6 +1,6 @@
 use Rattle.std.proofs.Common.{◌≡◌, Some, drop}
 use Rattle.dfdl_chars.specs.Encodings.{joined}
-use Rattle.dfdl_writings.specs.Nils.{literal_bytes}
+use Rattle.dfdl_writings.specs.Literals.{literal_bytes}
 use Rattle.dfdl_writings.proofs.literal.literal_bytes.Given as goal
 
 -- the bytes of the pieces before, and those that are left

@@ -1,5 +1,5 @@
 use Rattle.std.proofs.Common.{◌≡◌, ◌+◌, drop}
-use Rattle.dfdl_writings.specs.Nils.{literal_count}
+use Rattle.dfdl_writings.specs.Literals.{literal_count}
 use Rattle.dfdl_writings.proofs.literal.literal_count.Given as goal
 
 abbrev pub invariant-loop-piece : goal.invariant-loop-piece

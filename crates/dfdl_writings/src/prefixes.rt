@@ -39,13 +39,24 @@ pub fn units_of(prefix: Prefix, bits: u64, characters: u64) -> Option<u128>
     }
 }
 
+// Half of the numbers that so many bits hold.
+fn half_of(bits: u32) -> u128
+    requires some { 1 ≤ bits }
+    requires few { bits ≤ 128 }
+    ensures value { result ≡ 2 ^ (bits - 1) }
+    ensures few { result ≤ 2 ^ 127 }
+{
+    1 << (bits - 1)
+}
+
 // So many units as a value of a signed type of so many bits.
 fn signed(bits: u32, units: u128) -> Option<Value>
     requires some { 1 ≤ bits }
     requires few { bits ≤ 128 }
     ensures { SomeIff result (units < 2 ^ (bits - 1)) (Int (pos units)) }
 {
-    if units < 1 << (bits - 1) {
+    let half = half_of(bits);
+    if units < half {
         Some(Value::Int(units as i128))
     } else {
         None

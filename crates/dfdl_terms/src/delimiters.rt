@@ -18,4 +18,6 @@ pub struct Delimiter {
     pub in_nil: bool,
     /// It stands in the empty representation too ('DFDL Data Syntax Grammar').
     pub in_empty: bool,
+    /// Where it is found, it resolves the innermost point of uncertainty ('Choices', on choices by a key with initiated content).
+    pub resolves: bool,
 }

@@ -45,12 +45,14 @@ pub struct Opening {
     pub start: Option<Expression>,
 }
 
-/// The value of an element that has no representation ('Calculated Values').
+/// The value of an element that has no representation, or the value by which an element is written ('Calculated Values').
 #[derive(Debug, Drop)]
 pub struct Calculation {
     /// The type of the element.
     pub kind: Simple,
     pub expression: Expression,
+    /// The value is that of unparsing alone (outputValueCalc); parsing takes the element's value from the data.
+    pub output: bool,
 }
 
 /// What a row asks for: a length, a number of occurrences, or the key of a choice ('DFDL Expression Language').

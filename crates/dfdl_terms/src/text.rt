@@ -22,6 +22,8 @@ pub enum NilTexts {
     Literals(Literals),
     /// One or more of this character.
     Character(char),
+    /// One or more of this byte.
+    Byte(u8),
 }
 
 /// How nil lies in the data.

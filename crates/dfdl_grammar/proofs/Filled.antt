@@ -578,7 +578,8 @@ module _ (input : Input) (table : Table) (leaves : HasLeaves table) where
         let told : Result Value ℕ = taken calculation.0.kind (evaluated table start expression s) in
         let same : below input table n id s ≡ spend one_row (calculated input.limits told first) =
         row-below n id (Some (Statement number)) less row_is s
-        ∙ ap (λ (found : Option AnyStatement). spend one_row (statement_of input table number found s)) calculation.1 in
+        ∙ ap (λ (found : Option AnyStatement). spend one_row (statement_of input table number found s)) calculation.1
+        ∙ ap (λ (output : Bool). spend one_row (cond output (ended Done s) (calculated input.limits told first))) calculation.2 in
         subst (λ (o : Outcome). IsRead s o.state) (sym same)
         (read_behind s first (calculated input.limits told first).state (as_told s s s.instead s.marks first.variables (fine s))
         (calculated-reads told first (ap (λ (o : Outcome). o.end) (sym same) ∙ done)))

@@ -1,5 +1,5 @@
 -- Marks of which more are resolved are the same marks.
-use Rattle.std.proofs.Common.{◌≡◌, refl, List, [], ◌∷◌, Bool, true, false, cond, ap, sym, ◌∙◌}
+use Rattle.std.proofs.Common.{◌≡◌, refl, List, [], ◌∷◌, Bool, true, false, ◌||◌, cond, ap, sym, ◌∙◌}
 use Rattle.dfdl_grammar.specs.declared.mark.Mark.{Mark}
 use Rattle.dfdl_grammar.specs.States.{State}
 use Rattle.dfdl_grammar.specs.Marks.{AreSame, are_initiated, back_among, initiated, outer_marks, resolved, resolved_among, unresolved}
@@ -33,5 +33,5 @@ module _ (P : State → Type 0) (s : State) (same : (marks : List Mark) → AreS
   initiated_by true = same (resolved_among s.marks) (resolved_same s.marks)
   initiated_by false = same s.marks refl
 
-  pub initiated-comes : P (initiated s)
-  initiated-comes = initiated_by (are_initiated s.marks)
+  pub initiated-comes : (resolves : Bool) → P (initiated resolves s)
+  initiated-comes resolves = initiated_by (resolves || are_initiated s.marks)

@@ -63,13 +63,13 @@ module _ (P : End → State → Type 0) (s : State)
 module _ (P : End → State → Type 0) (s : State)
     (moves : (at : ℕ) (marks : List Mark) → AreSame marks s.marks → P Done (record s { at = at; marks = marks }))
     (fails : (cause : ParseCause) → P (Failed cause s.at) s) (stops : (cause : Halt) (quantity : ℕ) → P (Stopped cause quantity) s)
-    (input : Input) where
+    (input : Input) (resolves : Bool) where
   -- where a text was found that may be an initiator
   abbrev Resolves : End → State → Type 0
-  Resolves e t = P e t × (e ≡ Done → P Done (initiated t))
+  Resolves e t = P e t × (e ≡ Done → P Done (initiated resolves t))
 
-  found-comes : (e : End) (o : Outcome) → e ≡ o.end → Resolves o.end o.state → P (found_initiator e o).end (found_initiator e o).state
-  found-comes Done o same holds = subst (λ (e : End). P e (initiated o.state)) same (holds.1 (sym same))
+  found-comes : (e : End) (o : Outcome) → e ≡ o.end → Resolves o.end o.state → P (found_initiator resolves e o).end (found_initiator resolves e o).state
+  found-comes Done o same holds = subst (λ (e : End). P e (initiated resolves o.state)) same (holds.1 (sym same))
   found-comes (Failed cause bit) o same holds = holds.0
   found-comes (Stopped cause quantity) o same holds = holds.0
 
@@ -77,11 +77,11 @@ module _ (P : End → State → Type 0) (s : State)
   resolves-at at marks same = (
     moves at marks same,
     λ done. initiated-comes (λ (t : State). P Done t) (record s { at = at; marks = marks })
-        (λ others other_same. moves at others (other_same ∙ same)),
+        (λ others other_same. moves at others (other_same ∙ same)) resolves,
   )
 
   stands-initiated : (lists : List Opened) (stands : Bool)
-      → (let out : Outcome = cond stands (let o : Outcome = seek input InitiatorMissing lists 0 s in found_initiator o.end o) (ended Done s) in
+      → (let out : Outcome = cond stands (let o : Outcome = seek input InitiatorMissing lists 0 s in found_initiator resolves o.end o) (ended Done s) in
       P out.end out.state)
   stands-initiated lists true =
       let o : Outcome = seek input InitiatorMissing lists 0 s in
@@ -90,6 +90,12 @@ module _ (P : End → State → Type 0) (s : State)
       (λ cause quantity. (stops cause quantity, λ done. absurd (cc))) input InitiatorMissing lists 0)
   stands-initiated lists false = moves s.at s.marks refl
 
+-- and so of each initiator
+module _ (P : End → State → Type 0) (s : State)
+    (moves : (at : ℕ) (marks : List Mark) → AreSame marks s.marks → P Done (record s { at = at; marks = marks }))
+    (fails : (cause : ParseCause) → P (Failed cause s.at) s) (stops : (cause : Halt) (quantity : ℕ) → P (Stopped cause quantity) s)
+    (input : Input) where
   pub initiator-comes : (delimiters : List Delimiters) (delimiter : Delimiter)
       → P (initiator input delimiters delimiter s).end (initiator input delimiters delimiter s).state
-  initiator-comes delimiters delimiter = stands-initiated (lists_of delimiters (delimiter.list ∷ [])) (stands_in s.instead delimiter)
+  initiator-comes delimiters delimiter =
+      stands-initiated P s moves fails stops input delimiter.resolves (lists_of delimiters (delimiter.list ∷ [])) (stands_in s.instead delimiter)

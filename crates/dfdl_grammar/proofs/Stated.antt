@@ -12,6 +12,7 @@ use Rattle.dfdl_vars.specs.declared.instances.VarFault.{VarFault}
 use Rattle.dfdl_report.specs.declared.cause.ParseCause.{ParseCause}
 use Rattle.dfdl_report.specs.declared.cause.ParseCause.TheVariants.{ExpressionFault}
 use Rattle.dfdl_terms.specs.Rows.{Table}
+use Rattle.dfdl_terms.specs.declared.statement.Calculation.{Calculation as CalculationOf}
 use Rattle.dfdl_terms.specs.declared.statement.Statement.{Statement}
 use Rattle.dfdl_terms.specs.declared.statement.Statement.TheVariants.{Pattern, Expression, Setting, Calculation, Question, Opening}
 use Rattle.dfdl_terms.specs.declared.statement.Statements.{Statements}
@@ -26,7 +27,7 @@ use Rattle.dfdl_grammar.specs.Outcomes.{Outcome, ended, follow}
 use Rattle.dfdl_grammar.specs.Leaves.{default_find, land}
 use Rattle.dfdl_grammar.specs.Marks.{AreSame, resolved, resolved_among}
 use Rattle.dfdl_grammar.specs.Tests.{false_test}
-use Rattle.dfdl_grammar.specs.Statements.{around_at, calculated, concluded, concluded_at, evaluated, is_held, is_written, judged, reconsidered, reconsidered_from, set_by, set_to, start_of, stated, stated_from, statement, statement_of, told_at, variable_cause, with_reads}
+use Rattle.dfdl_grammar.specs.Statements.{around_at, calculated, computed, concluded, concluded_at, evaluated, is_held, is_written, judged, reconsidered, reconsidered_from, set_by, set_to, start_of, stated, stated_from, statement, statement_of, told_at, variable_cause, with_reads}
 use Rattle.dfdl_grammar.proofs.Resolved.{resolved_same}
 use Rattle.dfdl_grammar.proofs.Tested.{test-comes}
 use Rattle.dfdl_grammar.proofs.Ways.{GoesOn, goes_same, left_goes, set_goes}
@@ -124,6 +125,20 @@ module _ (limits : Limits) (R : State → Type 0) (P : End → State → Type 0)
   pub reads-come : (start : Start) (expression : List Node) (t : State) → R t → R (with_reads table start expression t)
   reads-come start expression t has = reads-again R tells.again table start expression t has
 
+  -- a calculated value, or nothing where that is one of unparsing alone
+  computed-comes : (start : Start) (calculation : CalculationOf) → Comes (computed limits table start calculation)
+  computed-comes start calculation t has = by calculation.output
+    where
+      found : Result Value ℕ
+      found = taken calculation.kind (evaluated table start calculation.expression t)
+
+      behind : State
+      behind = with_reads table start calculation.expression t
+
+      by : (output : Bool) → (let o : Outcome = cond output (ended Done t) (calculated limits found behind) in P o.end o.state)
+      by true = tells.ends Done t has
+      by false = calculated-comes found behind (reads-come start calculation.expression t has)
+
   pub stated-comes : (start : Start) (number : ℕ) (found : Option Statement) → Comes (stated limits table start number found)
   stated-comes start number None t has = tells.ends Done t has
   stated-comes start number (Some (Pattern test)) t has = tells.ends Done t has
@@ -133,9 +148,7 @@ module _ (limits : Limits) (R : State → Type 0) (P : End → State → Type 0)
   stated-comes start number (Some (Setting setting)) t has =
       set-comes setting.variable (taken setting.kind (evaluated table start setting.expression t)) (with_reads table start setting.expression t)
       (reads-come start setting.expression t has)
-  stated-comes start number (Some (Calculation calculation)) t has =
-      calculated-comes (taken calculation.kind (evaluated table start calculation.expression t)) (with_reads table start calculation.expression t)
-      (reads-come start calculation.expression t has)
+  stated-comes start number (Some (Calculation calculation)) t has = computed-comes start calculation t has
   stated-comes start number (Some (Question question)) t has = tells.ends Done t has
   stated-comes start number (Some (Opening opening)) t has = tells.ends Done t has
 

@@ -65,17 +65,17 @@ seek input cause lists place s =
     ask (seen_in input.bytes input.limits.window (anchor_at s (aligned 8 s.at))) (sought_among lists s.at s.stop) nothing in
     spend (needs_from (anchor_at s (aligned 8 s.at)) reading.tally) (passed_text cause place input.limits.window reading.reached s)
 
--- after this end of the search for an initiator: where it is found, it resolves a point that it can resolve
-abbrev pub found_initiator : End → Outcome → Outcome
-found_initiator Done o = record o { state = initiated o.state }
-found_initiator (Failed cause bit) o = o
-found_initiator (Stopped cause quantity) o = o
+-- after this end of the search for an initiator: where it is found, it resolves the innermost point, or that where it can resolve it
+abbrev pub found_initiator : Bool → End → Outcome → Outcome
+found_initiator resolves Done o = record o { state = initiated resolves o.state }
+found_initiator resolves (Failed cause bit) o = o
+found_initiator resolves (Stopped cause quantity) o = o
 
 -- an initiator, where it stands in the representation that is tried: it is sought among its own literals
 abbrev pub initiator : Input → List Delimiters → Delimiter → State → Outcome
 initiator input delimiters delimiter s =
     if stands_in s.instead delimiter
-    then (let o : Outcome = seek input InitiatorMissing (lists_of delimiters (delimiter.list ∷ [])) 0 s in found_initiator o.end o)
+    then (let o : Outcome = seek input InitiatorMissing (lists_of delimiters (delimiter.list ∷ [])) 0 s in found_initiator delimiter.resolves o.end o)
     else ended Done s
 
 -- the number of a list, if there is one

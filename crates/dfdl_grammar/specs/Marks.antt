@@ -1,5 +1,5 @@
 -- Marks are opened, parsing goes back to them, and they are closed. 'Parsing Algorithm'.
-use Rattle.std.specs.Prelude.{◌≡◌, ℕ, nat_le, List, [], ◌∷◌, take, length, Bool, true, false, Option, Some, None, slice_get, if◌then◌else◌}
+use Rattle.std.specs.Prelude.{◌≡◌, ℕ, nat_le, List, [], ◌∷◌, take, length, Bool, true, false, ◌||◌, Option, Some, None, slice_get, if◌then◌else◌}
 use Rattle.dfdl_vars.specs.Marks.{gone_back, mark_of}
 use Rattle.dfdl_region.specs.declared.node.Content.{Content}
 use Rattle.dfdl_region.specs.declared.node.Content.TheVariants.{Begun}
@@ -62,9 +62,9 @@ abbrev pub are_initiated : List Mark → Bool
 are_initiated [] = false
 are_initiated (mark ∷ outer) = if mark.is_point then mark.is_initiated else are_initiated outer
 
--- an initiator was found: it resolves the innermost point where that is one that it can resolve
-abbrev pub initiated : State → State
-initiated s = if are_initiated s.marks then resolved s else s
+-- an initiator was found: it resolves the innermost point, if it is one that resolves any, and else where that is one that it can resolve
+abbrev pub initiated : Bool → State → State
+initiated resolves s = if resolves || are_initiated s.marks then resolved s else s
 
 -- the first of these marks is resolved
 abbrev pub is_settled : List Mark → Bool

@@ -22,6 +22,7 @@ use Rattle.dfdl_report.specs.declared.cause.VariableCause.{VariableCause}
 use Rattle.dfdl_report.specs.declared.cause.VariableCause.TheVariants as variable
 use Rattle.dfdl_terms.specs.Arrays.{item_marks}
 use Rattle.dfdl_terms.specs.Rows.{Table}
+use Rattle.dfdl_terms.specs.declared.statement.Calculation.{Calculation as CalculationOf}
 use Rattle.dfdl_terms.specs.declared.statement.Statement.{Statement}
 use Rattle.dfdl_terms.specs.declared.statement.Statement.TheVariants.{Pattern, Expression, Setting, Calculation, Question, Opening}
 use Rattle.dfdl_terms.specs.declared.statement.Statements.{Statements}
@@ -80,6 +81,12 @@ abbrev pub calculated : Limits → Result Value ℕ → State → Outcome
 calculated limits (Ok v) s = if is_written v then land limits s.at (Told (default_find s.at v)) s else ended (Failed (ExpressionFault 6) s.at) s
 calculated limits (Err cause) s = ended (Failed (ExpressionFault cause) s.at) s
 
+-- a calculated value, or nothing where that is one of unparsing alone; an element's value is then that of the data
+abbrev pub computed : Limits → Table → Start → CalculationOf → State → Outcome
+computed limits table start calculation s =
+    if calculation.output then ended Done s
+    else calculated limits (taken calculation.kind (evaluated table start calculation.expression s)) (with_reads table start calculation.expression s)
+
 -- what a statement comes to whose expression begins there; a test of a pattern has none, and a question is asked by its row
 abbrev pub stated : Limits → Table → Start → ℕ → Option Statement → State → Outcome
 stated limits table start number None s = ended Done s
@@ -88,8 +95,7 @@ stated limits table start number (Some (Expression asked)) s =
     judged asked.discriminates number (truth_taken (evaluated table start asked.expression s)) (with_reads table start asked.expression s)
 stated limits table start number (Some (Setting setting)) s =
     set_to setting.variable (taken setting.kind (evaluated table start setting.expression s)) (with_reads table start setting.expression s)
-stated limits table start number (Some (Calculation calculation)) s =
-    calculated limits (taken calculation.kind (evaluated table start calculation.expression s)) (with_reads table start calculation.expression s)
+stated limits table start number (Some (Calculation calculation)) s = computed limits table start calculation s
 stated limits table start number (Some (Question question)) s = ended Done s
 stated limits table start number (Some (Opening opening)) s = ended Done s
 

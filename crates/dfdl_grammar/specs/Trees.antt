@@ -1,5 +1,5 @@
 -- The elements of a document are a tree of the schema's elements.
-use Rattle.std.specs.Prelude.{◌≡◌, ◌<◌, ◌≤◌, ℕ, List, Some, slice_get}
+use Rattle.std.specs.Prelude.{◌≡◌, ◌<◌, ◌≤◌, ℕ, List, Some, slice_get, false}
 use Rattle.dfdl_forms.specs.declared.simple.Simple.{Simple}
 use Rattle.dfdl_terms.specs.declared.row.Primitive.{Primitive}
 use Rattle.dfdl_terms.specs.declared.statement.Calculation.{Calculation as CalculationOf}
@@ -26,9 +26,10 @@ IsTree table nodes = (number : ℕ) (node : Node) → slice_get nodes number ≡
 abbrev pub IsInTables : Table → ℕ → Type 0
 IsInTables table prim = (primitive : Primitive) × (slice_get table.primitives prim ≡ Some primitive)
 
--- the statement of this number of the tables is a calculated value
+-- the statement of this number of the tables is a calculated value, and not one of unparsing alone
 abbrev pub IsCalculation : Table → ℕ → Type 0
-IsCalculation table number = (calculation : CalculationOf) × (slice_get table.statements number ≡ Some (Calculation calculation))
+IsCalculation table number =
+    (calculation : CalculationOf) × (slice_get table.statements number ≡ Some (Calculation calculation)) × (calculation.output ≡ false)
 
 -- the body of each element of a simple type reads a value by a primitive of the tables, or calculates one
 abbrev pub HasLeaves : Table → Type 0

@@ -1,9 +1,10 @@
 // What stands for nil in the data.
-ghost use Rattle.std.specs.Prelude.{◌≡◌, ℕ, ◌+◌, ◌-◌, ◌*◌, ◌/◌, ◌^◌, ◌<◌, ◌≤◌, Some, None, IfOk, if◌then◌else◌};
+ghost use Rattle.std.specs.Prelude.{◌≡◌, ℕ, ◌+◌, ◌-◌, ◌*◌, ◌/◌, ◌^◌, ◌<◌, ◌≤◌, Some, None, IfOk, nat_eq, if◌then◌else◌};
+ghost use Rattle.std.specs.List.{list_all};
 ghost use Rattle.dfdl_bits.specs.Window.{end_of, seen_at};
 ghost use Rattle.dfdl_chars.specs.Encodings.{encoded_text};
 ghost use Rattle.dfdl_grammar.specs.Leaves.{nil_find, nil_octets};
-ghost use Rattle.dfdl_grammar.specs.Nils.{are_nil, is_nil};
+ghost use Rattle.dfdl_grammar.specs.Nils.{are_nil, are_repeated, is_nil};
 ghost use Rattle.dfdl_looks.specs.Asks.{Told, ask};
 ghost use Rattle.dfdl_looks.specs.Tallies.{nothing};
 ghost use Rattle.dfdl_leaves.specs.declared.leaf.Scratch.{Scratch as AnyScratch};
@@ -112,6 +113,20 @@ pub(crate) fn is_nil(
     Ok(is_nil)
 }
 
+// Whether all bytes are this one.
+fn are_all(b: u8, bytes: &[u8]) -> bool
+    ensures { result ≡ list_all (nat_eq b) bytes.now }
+{
+    bytes.iter().all(|byte| b == *byte)
+}
+
+// Whether there are bytes, and all are this one.
+fn are_repeated(b: u8, bytes: &[u8]) -> bool
+    ensures { result ≡ are_repeated b bytes.now }
+{
+    !bytes.is_empty() && are_all(b, bytes)
+}
+
 // Whether bytes stand for nil.
 fn are_nil(form: &NilForm, bytes: &[u8], places: &mut Vec<bool>) -> Result<bool, AllocError>
     ensures { IfOk result (λ are. are ≡ are_nil form.now bytes.now) }
@@ -122,6 +137,7 @@ fn are_nil(form: &NilForm, bytes: &[u8], places: &mut Vec<bool>) -> Result<bool,
             Ok(are)
         }
         NilTexts::Character(c) => Ok(is_repeated(form.encoding, form.fold, *c, bytes)),
+        NilTexts::Byte(b) => Ok(are_repeated(*b, bytes)),
     }
 }
 

@@ -388,7 +388,7 @@ module _ (held : Held) (s : State) where
   enter-keeps stands limits table id (Some (Skip bits)) k = begin-keeps (s.at + bits) k (nat_le (s.at + bits) s.at) (nat_le (s.at + bits) s.stop)
   enter-keeps stands limits table id (Some (Align bits)) k =
       begin-keeps (aligned bits s.at) k (nat_le (aligned bits s.at) s.at) (nat_le (aligned bits s.at) s.stop)
-  enter-keeps stands limits table id (Some (Initiator delimiter)) k = delimiter-keeps (sought.Initiator delimiter.list) k (stands_in s.instead delimiter)
+  enter-keeps stands limits table id (Some (Initiator delimiter)) k = delimiter-keeps (sought.Initiator delimiter.list delimiter.resolves) k (stands_in s.instead delimiter)
   enter-keeps stands limits table id (Some (Terminator delimiter separators)) k = delimiter-keeps (sought.Terminator delimiter.list separators) k (stands_in s.instead delimiter)
   enter-keeps stands limits table id (Some Separator) k = pass-keeps one_row held _ _ _ refl refl
   enter-keeps stands limits table id (Some (Scope list body)) k = pass-keeps one_row held _ _ _ refl refl

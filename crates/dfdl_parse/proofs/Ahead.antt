@@ -478,7 +478,7 @@ module _ (input : Input) (table : Table) where
   enter-ahead nests held id (Some (Skip bits)) k s is fits going = enter-fill held (s.at + bits) k s (nat_le (s.at + bits) s.at) (nat_le (s.at + bits) s.stop)
   enter-ahead nests held id (Some (Align bits)) k s is fits going =
       enter-fill held (aligned bits s.at) k s (nat_le (aligned bits s.at) s.at) (nat_le (aligned bits s.at) s.stop)
-  enter-ahead nests held id (Some (Initiator delimiter)) k s is fits going = delimiter-ahead input table held (sought.Initiator delimiter.list) k s (stands_in s.instead delimiter)
+  enter-ahead nests held id (Some (Initiator delimiter)) k s is fits going = delimiter-ahead input table held (sought.Initiator delimiter.list delimiter.resolves) k s (stands_in s.instead delimiter)
   enter-ahead nests held id (Some (Terminator delimiter separators)) k s is fits going =
       delimiter-ahead input table held (sought.Terminator delimiter.list separators) k s (stands_in s.instead delimiter)
   enter-ahead nests held id (Some Separator) k s is fits going = separator-ahead input table held k s

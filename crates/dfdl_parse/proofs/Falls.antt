@@ -396,7 +396,7 @@ enter-falls limits table held id (Some (Skip bits)) k s going =
     begin-falls held id (s.at + bits) k s (nat_le (s.at + bits) s.at) (nat_le (s.at + bits) s.stop)
 enter-falls limits table held id (Some (Align bits)) k s going =
     begin-falls held id (aligned bits s.at) k s (nat_le (aligned bits s.at) s.at) (nat_le (aligned bits s.at) s.stop)
-enter-falls limits table held id (Some (Initiator delimiter)) k s going = delimiter-falls held id (sought.Initiator delimiter.list) k s (stands_in s.instead delimiter)
+enter-falls limits table held id (Some (Initiator delimiter)) k s going = delimiter-falls held id (sought.Initiator delimiter.list delimiter.resolves) k s (stands_in s.instead delimiter)
 enter-falls limits table held id (Some (Terminator delimiter separators)) k s going =
     delimiter-falls held id (sought.Terminator delimiter.list separators) k s (stands_in s.instead delimiter)
 enter-falls limits table held id (Some Separator) k s going = omega arith

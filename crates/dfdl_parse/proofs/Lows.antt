@@ -434,7 +434,7 @@ module _ (held : Held) (s : State) where
       begin-low (s.at + bits) k low opens (nat_le (s.at + bits) s.at) (nat_le (s.at + bits) s.stop) refl
   enter-low limits table id (Some (Align bits)) k stands low opens =
       begin-low (aligned bits s.at) k low opens (nat_le (aligned bits s.at) s.at) (nat_le (aligned bits s.at) s.stop) refl
-  enter-low limits table id (Some (Initiator delimiter)) k stands low opens = delimiter-low (sought.Initiator delimiter.list) k low opens (stands_in s.instead delimiter)
+  enter-low limits table id (Some (Initiator delimiter)) k stands low opens = delimiter-low (sought.Initiator delimiter.list delimiter.resolves) k low opens (stands_in s.instead delimiter)
   enter-low limits table id (Some (Terminator delimiter separators)) k stands low opens = delimiter-low (sought.Terminator delimiter.list separators) k low opens (stands_in s.instead delimiter)
   enter-low limits table id (Some Separator) k stands low opens = (omega arith, opens)
   enter-low limits table id (Some (Scope list body)) k stands low opens = (low, opens)

@@ -6,7 +6,7 @@ use Rattle.std.proofs.lemmas.Bool.Decides.{nat_tests}
 use Rattle.dfdl_grammar.specs.declared.end.End.{End}
 use Rattle.dfdl_grammar.specs.declared.end.End.TheVariants.{Done, Failed, Stopped}
 use Rattle.dfdl_grammar.specs.declared.mark.Mark.{Mark}
-use Rattle.dfdl_grammar.specs.Marks.{are_initiated, back, back_among, initiated, is_settled, outer_marks, resolved, resolved_among, stays_at}
+use Rattle.dfdl_grammar.specs.Marks.{back, back_among, is_settled, outer_marks, resolved_among, stays_at}
 use Rattle.dfdl_separators.specs.declared.verdict.Here.{Here}
 use Rattle.dfdl_separators.specs.Groups.{here_of}
 use Rattle.dfdl_grammar.specs.Slots.{has_mark, is_tried, opens_before}
@@ -305,15 +305,6 @@ resolved-points (mark ∷ outer) = by mark.is_point (resolved-points outer)
 pub resolved-open : (base at : ℕ) (k : List Frame) (marks : List Mark) → AreOpen base at k marks → AreOpen base at k (resolved_among marks)
 resolved-open base at k marks opens =
     ((resolved-points marks ∙ opens.0.0, resolved-nested base at marks opens.0.1), resolved-lie at k marks opens.1)
-
--- where an initiator was found, too
-pub initiated-open : (base : ℕ) (k : List Frame) (s : State) → AreOpen base s.at k s.marks
-    → (base ≤ s.at / 8) → (base ≤ (initiated s).at / 8) × AreOpen base (initiated s).at k (initiated s).marks
-initiated-open base k s opens low = by (are_initiated s.marks)
-  where
-    by : (resolves : Bool) → (base ≤ (cond resolves (resolved s) s).at / 8) × AreOpen base (cond resolves (resolved s) s).at k (cond resolves (resolved s) s).marks
-    by true = (low, resolved-open base s.at k s.marks opens)
-    by false = (low, opens)
 
 -- the innermost mark is none behind the bit that comes next
 nested-before : (base at : ℕ) (marks : List Mark) → AreNested base at marks → IsBefore marks at

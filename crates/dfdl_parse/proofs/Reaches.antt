@@ -437,7 +437,7 @@ module _ (m : ℕ) (held : Held) (base : held.base ≤ m) where
     enter-reaches stands limits table id (Some (Group children)) k = group-reaches id children k
     enter-reaches stands limits table id (Some (Skip bits)) k = begin-reaches (s.at + bits) k (nat_le (s.at + bits) s.at) (nat_le (s.at + bits) s.stop)
     enter-reaches stands limits table id (Some (Align bits)) k = begin-reaches (aligned bits s.at) k (nat_le (aligned bits s.at) s.at) (nat_le (aligned bits s.at) s.stop)
-    enter-reaches stands limits table id (Some (Initiator delimiter)) k = delimiter-reaches (sought.Initiator delimiter.list) k (stands_in s.instead delimiter)
+    enter-reaches stands limits table id (Some (Initiator delimiter)) k = delimiter-reaches (sought.Initiator delimiter.list delimiter.resolves) k (stands_in s.instead delimiter)
     enter-reaches stands limits table id (Some (Terminator delimiter separators)) k = delimiter-reaches (sought.Terminator delimiter.list separators) k (stands_in s.instead delimiter)
     enter-reaches stands limits table id (Some Separator) k = pass-reaches one_row (Seek sought.Separator) k s at
     enter-reaches stands limits table id (Some (Scope list body)) k = pass-reaches one_row (Enter body) (ScopeFrame (length s.lists) ∷ k) (opens list s) at

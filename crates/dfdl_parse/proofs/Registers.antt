@@ -529,7 +529,7 @@ module _ (limits : Limits) (table : Table) (held : Held) (named : All (NamesWith
   enter-names id (Some (Align bits)) k s is lists =
       begin-names count held (aligned bits s.at) k s lists (nat_le (aligned bits s.at) s.at) (nat_le (aligned bits s.at) s.stop)
   enter-names id (Some (Initiator delimiter)) k s is lists =
-      delimiter-names count held (sought.Initiator delimiter.list) k s (one-name count delimiter.list (named-at table named id (Initiator delimiter) is)) lists
+      delimiter-names count held (sought.Initiator delimiter.list delimiter.resolves) k s (one-name count delimiter.list (named-at table named id (Initiator delimiter) is)) lists
       (stands_in s.instead delimiter)
   enter-names id (Some (Terminator delimiter separators)) k s is lists =
       let within = named-at table named id (Terminator delimiter separators) is in

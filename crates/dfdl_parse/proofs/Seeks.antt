@@ -129,7 +129,7 @@ drop-few (suc hidden) (m ∷ lists) =
     ap (λ (n : ℕ). drop n (m ∷ lists)) more ∙ drop-few hidden lists
 
 pub numbers-are : (what : Sought) (s : State) → drop (first_open what s) (s.lists ++ put_behind what) ≡ numbers_among what s
-numbers-are (Initiator list) s = drop-append_seam s.lists (list ∷ [])
+numbers-are (Initiator list resolves) s = drop-append_seam s.lists (list ∷ [])
 numbers-are (Terminator list separators) s =
     drop-append-le (min s.hidden (length s.lists)) s.lists (list ∷ numbers_of separators) (omega arith)
     ∙ ap (λ (ns : List ℕ). ns ++ list ∷ numbers_of separators) (drop-few s.hidden s.lists)
@@ -139,7 +139,7 @@ numbers-are Separator s =
 
 numbers-within : (count : ℕ) (what : Sought) (s : State) → All (λ n. n < count) (put_behind what) → All (λ n. n < count) s.lists
     → All (λ n. n < count) (numbers_among what s)
-numbers-within count (Initiator list) s less all = less
+numbers-within count (Initiator list resolves) s less all = less
 numbers-within count (Terminator list separators) s less all =
     All-append (λ n. n < count) (markup s) (list ∷ numbers_of separators) (All-drop (λ n. n < count) s.hidden s.lists all) less
 numbers-within count Separator s less all = All-drop (λ n. n < count) s.hidden s.lists all

@@ -15,6 +15,7 @@ use Rattle.dfdl_surroundings.specs.Answers.{answer_in, element_of, read_in}
 use Rattle.dfdl_surroundings.specs.Taking.{taken, truth_taken}
 use Rattle.dfdl_vars.specs.Kept.{Kept, fault_now}
 use Rattle.dfdl_vars.specs.declared.instances.VarFault.{VarFault}
+use Rattle.dfdl_terms.specs.declared.statement.Calculation.{Calculation as CalculationOf}
 use Rattle.dfdl_terms.specs.declared.statement.Statement.{Statement}
 use Rattle.dfdl_terms.specs.declared.statement.Statement.TheVariants.{Pattern, Expression, Setting, Calculation, Question, Opening}
 use Rattle.dfdl_terms.specs.declared.statement.Statements.{Statements}
@@ -30,7 +31,7 @@ use Rattle.dfdl_grammar.specs.Leaves.{default_find, land}
 use Rattle.dfdl_grammar.specs.Marks.{resolved}
 use Rattle.dfdl_grammar.specs.Outcomes.{Outcome, ended, follow}
 use Rattle.dfdl_grammar.specs.States.{State}
-use Rattle.dfdl_grammar.specs.Statements.{around_at, calculated, evaluated, is_held, is_written, judged, reconsidered, reconsidered_from, set_by, set_to, stated, stated_from, told_at, variable_cause, with_reads}
+use Rattle.dfdl_grammar.specs.Statements.{around_at, calculated, computed, evaluated, is_held, is_written, judged, reconsidered, reconsidered_from, set_by, set_to, stated, stated_from, told_at, variable_cause, with_reads}
 use Rattle.dfdl_grammar.specs.Tests.{false_test}
 use Rattle.dfdl_parse.specs.declared.frame.Frame.{Frame}
 use Rattle.dfdl_parse.specs.declared.frame.Frame.TheVariants.{Concluding}
@@ -88,6 +89,21 @@ module _ (P : End → State → Type 0) (resolves : (s : State) → P Done s →
   read-comes table start expression s is =
       changes s s.nodes s.text (left_by answer_in read_in (meaning expression) (around_at table start s)).variables is
 
+  -- a calculated value, or nothing where that is one of unparsing alone
+  computed-comes : (limits : Limits) (table : Table) (start : Start) (calculation : CalculationOf) (s : State) → P Done s
+      → let o : Outcome = computed limits table start calculation s in P o.end o.state
+  computed-comes limits table start calculation s is = by calculation.output
+    where
+      found : Result Value ℕ
+      found = taken calculation.kind (evaluated table start calculation.expression s)
+
+      behind : State
+      behind = with_reads table start calculation.expression s
+
+      by : (output : Bool) → let o : Outcome = cond output (ended Done s) (calculated limits found behind) in P o.end o.state
+      by true = is
+      by false = calculated-comes limits found behind (read-comes table start calculation.expression s is)
+
   -- behind a statement
   pub stated-comes : (limits : Limits) (table : Table) (start : Start) (number : ℕ) (found : Option Statement) (s : State) → P Done s
       → let o : Outcome = stated limits table start number found s in P o.end o.state
@@ -99,9 +115,7 @@ module _ (P : End → State → Type 0) (resolves : (s : State) → P Done s →
   stated-comes limits table start number (Some (Setting setting)) s is =
       set_to-comes setting.variable (taken setting.kind (evaluated table start setting.expression s)) (with_reads table start setting.expression s)
       (read-comes table start setting.expression s is)
-  stated-comes limits table start number (Some (Calculation calculation)) s is =
-      calculated-comes limits (taken calculation.kind (evaluated table start calculation.expression s)) (with_reads table start calculation.expression s)
-      (read-comes table start calculation.expression s is)
+  stated-comes limits table start number (Some (Calculation calculation)) s is = computed-comes limits table start calculation s is
   stated-comes limits table start number (Some (Question question)) s is = is
   stated-comes limits table start number (Some (Opening opening)) s is = is
 
@@ -190,6 +204,20 @@ calculated-nothing limits (Ok v) s = by (is_written v)
     by false = refl
 calculated-nothing limits (Err cause) s = refl
 
+computed-nothing : (limits : Limits) (table : Table) (start : Start) (calculation : CalculationOf) (s : State)
+    → (computed limits table start calculation s).tally ≡ nothing
+computed-nothing limits table start calculation s = by calculation.output
+  where
+    found : Result Value ℕ
+    found = taken calculation.kind (evaluated table start calculation.expression s)
+
+    behind : State
+    behind = with_reads table start calculation.expression s
+
+    by : (output : Bool) → (cond output (ended Done s) (calculated limits found behind)).tally ≡ nothing
+    by true = refl
+    by false = calculated-nothing limits found behind
+
 pub stated-nothing : (limits : Limits) (table : Table) (start : Start) (number : ℕ) (found : Option Statement) (s : State)
     → (stated limits table start number found s).tally ≡ nothing
 stated-nothing limits table start number None s = refl
@@ -198,8 +226,7 @@ stated-nothing limits table start number (Some (Expression test)) s =
     judged-nothing test.discriminates number (truth_taken (evaluated table start test.expression s)) (with_reads table start test.expression s)
 stated-nothing limits table start number (Some (Setting setting)) s =
     set_to-nothing setting.variable (taken setting.kind (evaluated table start setting.expression s)) (with_reads table start setting.expression s)
-stated-nothing limits table start number (Some (Calculation calculation)) s =
-    calculated-nothing limits (taken calculation.kind (evaluated table start calculation.expression s)) (with_reads table start calculation.expression s)
+stated-nothing limits table start number (Some (Calculation calculation)) s = computed-nothing limits table start calculation s
 stated-nothing limits table start number (Some (Question question)) s = refl
 stated-nothing limits table start number (Some (Opening opening)) s = refl
 

@@ -522,7 +522,7 @@ module _ (table : Table) (held : Held) (s : State) where
   enter-waits limits id (Some (Align bits)) k at waits =
       absurd (begin-on (aligned bits s.at) k (nat_le (aligned bits s.at) s.at) (nat_le (aligned bits s.at) s.stop) waits)
   enter-waits limits id (Some (Group children)) k at waits = absurd (group-on id children k waits)
-  enter-waits limits id (Some (Initiator delimiter)) k at waits = absurd (delimiter-on (sought.Initiator delimiter.list) k (stands_in s.instead delimiter) waits)
+  enter-waits limits id (Some (Initiator delimiter)) k at waits = absurd (delimiter-on (sought.Initiator delimiter.list delimiter.resolves) k (stands_in s.instead delimiter) waits)
   enter-waits limits id (Some (Terminator delimiter separators)) k at waits = absurd (delimiter-on (sought.Terminator delimiter.list separators) k (stands_in s.instead delimiter) waits)
   enter-waits limits id (Some Separator) k at waits = absurd (cc)
   enter-waits limits id (Some (Scope list body)) k at waits = absurd (cc)

@@ -26,13 +26,13 @@ use Rattle.dfdl_parse.specs.Moves.{Machine, Move, pass}
 
 -- the lists that are put behind the open ones for a search
 abbrev pub put_behind : Sought → List ℕ
-put_behind (Initiator list) = list ∷ []
+put_behind (Initiator list resolves) = list ∷ []
 put_behind (Terminator list separators) = list ∷ numbers_of separators
 put_behind Separator = []
 
 -- the numbers of the lists among whose texts a delimiter is sought
 abbrev pub numbers_among : Sought → State → List ℕ
-numbers_among (Initiator list) s = list ∷ []
+numbers_among (Initiator list resolves) s = list ∷ []
 numbers_among (Terminator list separators) s = markup s ++ list ∷ numbers_of separators
 numbers_among Separator s = markup s
 
@@ -42,25 +42,25 @@ among delimiters sought s = lists_of delimiters (numbers_among sought s)
 
 -- how many open lists stand before the first of them, where some are put behind all
 abbrev pub first_open : Sought → State → ℕ
-first_open (Initiator list) s = length s.lists
+first_open (Initiator list resolves) s = length s.lists
 first_open (Terminator list separators) s = min s.hidden (length s.lists)
 first_open Separator s = min s.hidden (length s.lists)
 
 -- the place among them of the list of which a text is sought
 abbrev pub place_of : Sought → State → ℕ
-place_of (Initiator list) s = 0
+place_of (Initiator list resolves) s = 0
 place_of (Terminator list separators) s = length (markup s)
 place_of Separator s = length (markup s) - 1
 
 -- why it fails where there is none
 abbrev pub cause_of : Sought → ParseCause
-cause_of (Initiator list) = InitiatorMissing
+cause_of (Initiator list resolves) = InitiatorMissing
 cause_of (Terminator list separators) = TerminatorMissing
 cause_of Separator = SeparatorMissing
 
--- what a search comes to of what is sought: an initiator that is found resolves a point that it can resolve
+-- what a search comes to of what is sought: an initiator that is found may resolve a point
 abbrev pub sought_by : Sought → Outcome → Outcome
-sought_by (Initiator list) o = found_initiator o.end o
+sought_by (Initiator list resolves) o = found_initiator resolves o.end o
 sought_by (Terminator list separators) o = o
 sought_by Separator o = o
 

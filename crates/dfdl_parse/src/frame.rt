@@ -150,8 +150,8 @@ pub(crate) struct Parts {
 /// A delimiter that is sought ('Framing', 'Sequence Groups').
 #[derive(Debug, Clone, Copy, PartialEq, Eq)]
 pub enum Sought {
-    /// A text of this list of the tables, as an initiator.
-    Initiator { list: u32 },
+    /// A text of this list of the tables, as an initiator, which resolves the innermost point or not.
+    Initiator { list: u32, resolves: bool },
     /// A text of this list of the tables, as a terminator, of a component that may have separators of the other one.
     Terminator { list: u32, separator: Option<u32> },
     /// A text of the innermost list that is open, as a separator.

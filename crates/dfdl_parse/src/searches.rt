@@ -32,7 +32,7 @@ impl Parser {
     // An initiator begins.
     pub(crate) fn begin_initiator(&mut self, delimiter: Delimiter)
         ensures moved { (held : Held) → Moved
-            (enter_delimiter held delimiter (Sought.Initiator delimiter.list) self.old.stack (state_of self.old))
+            (enter_delimiter held delimiter (Sought.Initiator delimiter.list delimiter.resolves) self.old.stack (state_of self.old))
             false self.old.far self.new held 0 }
         ensures most { HasSameLimits self.old self.new }
         ensures at { self.new.at ≡ self.old.at }
@@ -41,6 +41,7 @@ impl Parser {
             delimiter,
             Sought::Initiator {
                 list: delimiter.list,
+                resolves: delimiter.resolves,
             },
         );
     }
@@ -177,23 +178,23 @@ impl Parser {
         false
     }
 
-    // A text that was sought is found, and an initiator resolves a point that it can resolve.
+    // A text that was sought is found, and an initiator resolves a point.
     fn take_text(&mut self, sought: Sought)
         ensures { Becomes self.old (at_outcome (sought_by sought (ended Done (state_of self.old))) self.old.stack) self.new }
     {
         match sought {
-            Sought::Initiator { .. } => self.resolve_initiated(),
+            Sought::Initiator { resolves, .. } => self.resolve_initiated(resolves),
             Sought::Terminator { .. } => {}
             Sought::Separator => {}
         }
         self.focus = Focus::Leave(End::Done);
     }
 
-    // An initiator was found: it resolves the innermost point where that is one that it can resolve.
-    fn resolve_initiated(&mut self)
-        ensures { Becomes self.old (record { focus = self.old.focus; stack = self.old.stack; state = initiated (state_of self.old) }) self.new }
+    // An initiator was found: it resolves the innermost point, if it is one that resolves any, and else where that is one that it can resolve.
+    fn resolve_initiated(&mut self, resolves: bool)
+        ensures { Becomes self.old (record { focus = self.old.focus; stack = self.old.stack; state = initiated resolves (state_of self.old) }) self.new }
     {
-        let initiated = self.marks.are_initiated();
+        let initiated = resolves || self.marks.are_initiated();
         if initiated {
             self.marks.resolve();
         }
@@ -217,7 +218,7 @@ fn put_behind(lists: &mut Scopes, sought: Sought) -> Result<(), AllocError>
     ensures { OnOk result (lists.new ≡ lists.old ++ put_behind sought) }
 {
     match sought {
-        Sought::Initiator { list } => lists.push(list),
+        Sought::Initiator { list, .. } => lists.push(list),
         Sought::Terminator { list, separator } => put_both(lists, list, separator),
         Sought::Separator => Ok(()),
     }

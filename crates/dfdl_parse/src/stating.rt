@@ -17,7 +17,7 @@ ghost use Rattle.dfdl_grammar.specs.declared.end.Halt.TheVariants.{Variable};
 ghost use Rattle.dfdl_grammar.specs.declared.limits.Limits.{Limits};
 ghost use Rattle.dfdl_grammar.specs.Leaves.{hold};
 ghost use Rattle.dfdl_grammar.specs.Spans.{vacant};
-ghost use Rattle.dfdl_grammar.specs.Statements.{around_at, calculated, evaluated, is_held, judged, reconsidered, reconsidered_from, set_by, set_to, start_of, stated, stated_from, told_at, variable_cause, with_reads};
+ghost use Rattle.dfdl_grammar.specs.Statements.{around_at, calculated, computed, evaluated, is_held, judged, reconsidered, reconsidered_from, set_by, set_to, start_of, stated, stated_from, told_at, variable_cause, with_reads};
 ghost use Rattle.dfdl_surroundings.specs.Answers.{element_of};
 ghost use Rattle.dfdl_parse.specs.Moves.{pass};
 ghost use Rattle.dfdl_parse.specs.Opens.{IsHeld};
@@ -236,8 +236,26 @@ impl Parser {
         });
     }
 
-    // The open element gets the value of an expression that begins there.
+    // The open element gets the value of an expression that begins there; one of unparsing alone does nothing.
     fn calculate(
+        &mut self,
+        terms: &Terms,
+        start: Start,
+        calculation: &Calculation,
+    ) -> Result<(), AllocError>
+        requires items { self.old.items ≡ item_marks terms.now.rows }
+        ensures { OnOk result ((limits : Limits) → limits.text ≡ self.old.text.most → Comes self.old
+            (computed limits terms.now start calculation.now (state_of self.old)) self.new) }
+    {
+        if calculation.output {
+            self.focus = Focus::Leave(End::Done);
+            return Ok(());
+        }
+        self.give_value(terms, start, calculation)
+    }
+
+    // The open element gets the value of an expression that begins there.
+    fn give_value(
         &mut self,
         terms: &Terms,
         start: Start,

@@ -1,5 +1,5 @@
 -- Boxes of bits that are written whole.
-use Rattle.std.proofs.Common.{◌≡◌, ℕ, zero, suc, ◌+◌, ◌-◌, ◌*◌, ◌/◌, ◌≤◌, Bool, true, false, nat_le, nat_lt, List, [], ◌++◌, length, Option, Some, None, refl, ap, ◌∙◌, subst, arith}
+use Rattle.std.proofs.Common.{◌≡◌, ℕ, zero, suc, ◌+◌, ◌-◌, ◌*◌, ◌/◌, ◌≤◌, Bool, true, false, nat_le, nat_lt, List, [], ◌∷◌, ◌++◌, length, Option, Some, None, refl, ap, ◌∙◌, subst, arith}
 use Rattle.std.specs.Prelude.{Result, Ok, Err, if◌then◌else◌}
 use Rattle.std.proofs.lemmas.Bool.{leb-true, leb-false, ltb-false}
 use Rattle.std.proofs.lemmas.List.{length-append}
@@ -18,7 +18,7 @@ use Rattle.dfdl_terms.specs.declared.row.Primitive.{Primitive}
 use Rattle.dfdl_terms.specs.declared.row.Primitive.TheVariants.{Integer, Packed, Truth, Octets, Text, NilOctets, Default, NilValues, Pattern}
 use Rattle.dfdl_terms.specs.declared.text.NilForm.{NilForm}
 use Rattle.dfdl_terms.specs.declared.text.NilTexts.{NilTexts}
-use Rattle.dfdl_terms.specs.declared.text.NilTexts.TheVariants.{Literals, Character}
+use Rattle.dfdl_terms.specs.declared.text.NilTexts.TheVariants.{Literals, Character, Byte}
 use Rattle.dfdl_terms.specs.declared.text.OctetForm.{OctetForm}
 use Rattle.dfdl_terms.specs.declared.text.TextForm.{TextForm}
 use Rattle.dfdl_value.specs.declared.value.Value.{Value}
@@ -178,6 +178,7 @@ pub nil_fills : (writing : WritingForm) (nil : NilForm) (pad : PadForm) (n : ℕ
     → nil_by writing nil pad (Bits n) texts ≡ Ok written → Fills n written
 nil_fills writing nil pad n (Literals literals) written is = literal_fills nil pad n writing.least _ _ written is
 nil_fills writing nil pad n (Character c) written is = character_fills nil n (encoded_of nil.encoding c) written is
+nil_fills writing nil pad n (Byte b) written is = character_fills nil n (Some (b ∷ [])) written is
 
 -- bytes in their box
 pub octets_fill : (n : ℕ) (bytes : List ℕ) (written : Written) → octets_in n bytes ≡ Ok written → Fills n written

@@ -1,5 +1,5 @@
 // What nil is written as.
-ghost use Rattle.std.specs.Prelude.{◌≡◌, ◌*◌, ◌/◌, ◌≤◌, ℕ, IfOk, Some, length};
+ghost use Rattle.std.specs.Prelude.{◌≡◌, ◌*◌, ◌/◌, ◌≤◌, ℕ, [], ◌∷◌, IfOk, Some, length};
 ghost use Rattle.dfdl_chars.specs.Encodings.{encoded_of};
 ghost use Rattle.dfdl_terms.specs.Rows.{most_length};
 ghost use Rattle.dfdl_writings.specs.Nils.{as_many, by_literals, characters_in, is_over, nil_bits, nil_bytes, nil_character, nil_content, nil_literal, nil_octets};
@@ -67,7 +67,7 @@ fn by_literals(
     }
 }
 
-// How many characters of so many bytes fill a room.
+// How many characters of so many bytes fill a room, or how many times a byte.
 fn as_many(room: Room, width: usize) -> u64
     requires some { 1 ≤ width }
     requires few { width ≤ 4 }
@@ -104,6 +104,30 @@ fn characters_in(
     Ok(Some(repeated(alloc, as_many(room, one.len()), one)?))
 }
 
+// The bytes of as many of a byte as its room holds.
+fn bytes_in(alloc: Global, room: Room, b: u8) -> Result<Option<ByteValue>, AllocError>
+    ensures { IfOk result (λ all. all ≡ characters_in room (Some (b ∷ []))) }
+{
+    Ok(Some(repeated(alloc, as_many(room, 1), &[b])?))
+}
+
+// As many of these bytes, which are those of a character or a byte alone, as their room holds.
+fn as_often(
+    alloc: Global,
+    nil: &NilForm,
+    one: &[u8],
+    room: Room,
+) -> Result<Result<Written, Unwritten>, AllocError>
+    requires room { IsRoom room }
+    requires some { 1 ≤ length one.now }
+    requires few { length one.now ≤ 4 }
+    ensures { IfOk result (λ told. told ≡ nil_character nil.now room (Some one.now)) }
+{
+    let count = as_many(room, one.len());
+    let all = repeated(alloc, count, one)?;
+    Ok(Ok(filled(nil.encoding, room, count, all)?))
+}
+
 // As many of a character as its room holds.
 fn by_character(
     alloc: Global,
@@ -117,10 +141,20 @@ fn by_character(
     let Some(bytes) = character_bytes(alloc, nil.encoding, c)? else {
         return Ok(Err(Unwritten::NotInEncoding));
     };
-    let one = bytes.as_slice();
-    let count = as_many(room, one.len());
-    let all = repeated(alloc, count, one)?;
-    Ok(Ok(filled(nil.encoding, room, count, all)?))
+    as_often(alloc, nil, bytes.as_slice(), room)
+}
+
+// As many of a byte as its room holds.
+fn by_byte(
+    alloc: Global,
+    nil: &NilForm,
+    b: u8,
+    room: Room,
+) -> Result<Result<Written, Unwritten>, AllocError>
+    requires { IsRoom room }
+    ensures { IfOk result (λ told. told ≡ nil_character nil.now room (Some (b ∷ []))) }
+{
+    as_often(alloc, nil, &[b], room)
 }
 
 /// What nil is written as.
@@ -137,6 +171,7 @@ pub(crate) fn nil_content(
     match &nil.texts {
         NilTexts::Literals(literals) => by_literals(alloc, nil, literals, pad, writing, room),
         NilTexts::Character(c) => by_character(alloc, nil, *c, room),
+        NilTexts::Byte(b) => by_byte(alloc, nil, *b, room),
     }
 }
 
@@ -181,6 +216,7 @@ fn nil_bytes(
             first_literal(literals),
         ),
         NilTexts::Character(c) => characters_in(alloc, nil.encoding, room, *c),
+        NilTexts::Byte(b) => bytes_in(alloc, room, *b),
     }
 }
 

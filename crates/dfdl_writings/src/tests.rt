@@ -295,26 +295,25 @@ fn numbers_in_bits(rt: HostRuntime) {
     );
 }
 
-/// Nil, which is `-`, or as many of it as fit.
-fn nil(alloc: Global, is_character: bool) -> Result<NilForm, AllocError> {
-    let texts = if is_character {
-        NilTexts::Character('-')
-    } else {
-        NilTexts::Literals(literals(alloc, '-')?)
-    };
-    Ok(NilForm {
-        texts,
-        encoding: Encoding::Utf8,
-        fold: false,
-    })
-}
-
-fn nil_in(alloc: Global, is_character: bool, room: Room) -> Result<Written, WritingFault>
+/// What nil of these texts is written as in a room.
+fn nil_in(alloc: Global, texts: NilTexts, room: Room) -> Result<Written, WritingFault>
     requires { IsRoom room }
 {
     let form = text(Encoding::Utf8, Justify::Left, false);
-    match nil(alloc, is_character) {
-        Ok(nil) => nil_of(alloc, &writing(alloc), &nil, &form.pad, room),
+    let nil = NilForm {
+        texts,
+        encoding: Encoding::Utf8,
+        fold: false,
+    };
+    nil_of(alloc, &writing(alloc), &nil, &form.pad, room)
+}
+
+/// What nil is written as in a room that is the literal `-`.
+fn literal_in(alloc: Global, room: Room) -> Result<Written, WritingFault>
+    requires { IsRoom room }
+{
+    match literals(alloc, '-') {
+        Ok(literals) => nil_in(alloc, NilTexts::Literals(literals), room),
         Err(_) => Err(WritingFault::OutOfMemory),
     }
 }
@@ -322,8 +321,16 @@ fn nil_in(alloc: Global, is_character: bool, room: Room) -> Result<Written, Writ
 #[test]
 fn nil_in_boxes(rt: HostRuntime) {
     let alloc = rt.alloc();
-    assert!(rt; is_this(nil_in(alloc, false, Room::Bits(20)), b"-*", 4));
-    assert!(rt; is_refused(nil_in(alloc, false, Room::Bits(7)), Unwritten::TooLong));
-    assert!(rt; is_this(nil_in(alloc, true, Room::Characters(3)), b"---", 0));
-    assert!(rt; is_this(nil_in(alloc, true, Room::Bits(20)), b"--", 4));
+    assert!(rt; is_this(literal_in(alloc, Room::Bits(20)), b"-*", 4));
+    assert!(rt; is_refused(literal_in(alloc, Room::Bits(7)), Unwritten::TooLong));
+    let dash = NilTexts::Character('-');
+    assert!(rt; is_this(nil_in(alloc, dash, Room::Characters(3)), b"---", 0));
+    let dash = NilTexts::Character('-');
+    assert!(rt; is_this(nil_in(alloc, dash, Room::Bits(20)), b"--", 4));
+    let byte = NilTexts::Byte(0xc8);
+    assert!(rt; is_this(nil_in(alloc, byte, Room::Bits(24)), b"\xc8\xc8\xc8", 0));
+    let byte = NilTexts::Byte(0xc8);
+    assert!(rt; is_this(nil_in(alloc, byte, Room::Bits(20)), b"\xc8\xc8", 4));
+    let byte = NilTexts::Byte(0);
+    assert!(rt; is_this(nil_in(alloc, byte, Room::Open), b"\0", 0));
 }

@@ -1,21 +1,20 @@
-use Rattle.std.proofs.Common.{ℕ, Result, ap, subst, sym, ◌∙◌}
+use Rattle.std.proofs.Common.{◌≡◌, ℕ, OnOk, Result, Bool, cond, subst, sym}
 use Rattle.dfdl_value.specs.declared.value.Value.{Value}
 use Rattle.dfdl_surroundings.specs.Taking.{taken}
+use Rattle.dfdl_grammar.specs.declared.end.End.TheVariants.{Done}
+use Rattle.dfdl_grammar.specs.declared.limits.Limits.{Limits}
+use Rattle.dfdl_grammar.specs.Outcomes.{ended}
+use Rattle.dfdl_grammar.specs.States.{State}
 use Rattle.dfdl_grammar.specs.Statements.{calculated, evaluated, with_reads}
-use Rattle.dfdl_parse.specs.declared.parser.Parser.{Parser}
 use Rattle.dfdl_parse.specs.Shown.{Comes, state_of}
-use Rattle.dfdl_parse.proofs.Statings.{after-reads}
 use Rattle.dfdl_parse.proofs.parser.Parser.calculate.Goals as goal
 
 pub returns : goal.returns
-returns c limits most =
+returns c =
     let old = c.args.self.now in
-    let mid = c.evaluate.new.self in
+    let s : State = state_of old in
     let calculation = c.args.calculation.now in
-    let same = c.in_ok-value.ensures.same in
-    after-reads old mid c.give_by.new.self
-    (calculated limits (taken calculation.kind (evaluated c.args.terms.now c.args.start calculation.expression (state_of old))))
-    (with_reads c.args.terms.now c.args.start calculation.expression (state_of old)) same c.in_ok-value.ensures.reads
-    (subst (λ (r : Result Value ℕ). Comes mid (calculated limits r (state_of mid)) c.give_by.new.self)
-    (c.take-taken.ensures ∙ ap (taken calculation.kind) c.in_ok-value.ensures.value)
-    (c.give_by.ensures limits (most ∙ sym (ap (λ (p : Parser). p.text.most) same))))
+    let found : Result Value ℕ = taken calculation.kind (evaluated c.args.terms.now c.args.start calculation.expression s) in
+    let behind : State = with_reads c.args.terms.now c.args.start calculation.expression s in
+    subst (λ (output : Bool). OnOk c.give_value.result ((limits : Limits) → limits.text ≡ old.text.most
+    → Comes old (cond output (ended Done s) (calculated limits found behind)) c.give_value.new.self)) (sym c.if-calculation.false) c.give_value.ensures

@@ -29,6 +29,7 @@ and_nowhere a = λ i. record {
   needs_bound = or_false a.needs_bound i;
   needs_key = or_false a.needs_key i;
   repeats_key = or_false a.repeats_key i;
+  resolves = or_false a.resolves i;
 }
 
 -- it doesn't matter how what stands in several groups is joined
@@ -38,6 +39,7 @@ joined a b c = λ i. record {
   needs_bound = or_both a.needs_bound b.needs_bound c.needs_bound i;
   needs_key = or_both a.needs_key b.needs_key c.needs_key i;
   repeats_key = or_both a.repeats_key b.repeats_key c.repeats_key i;
+  resolves = or_both a.resolves b.resolves c.resolves i;
 }
 
 -- the rest of a list behind one that is there

@@ -1,7 +1,7 @@
 -- Mirror for the prover: what is told of a component, by what the rules see of it, the group that it hides and its settings.
 use Rattle.std.specs.Prelude.{List, Option}
 use Rattle.dfdl_checks.specs.Boxes.{size_of_box}
-use Rattle.dfdl_checks.specs.Calculations.{calculation_of}
+use Rattle.dfdl_checks.specs.Calculations.{calculation_of, output_of}
 use Rattle.dfdl_checks.specs.Delimiters.{delimiters_of}
 use Rattle.dfdl_checks.specs.Framing.{framing_of}
 use Rattle.dfdl_checks.specs.Judged.{Judged}
@@ -15,7 +15,7 @@ use Rattle.dfdl_checks.specs.Standings.{initiates}
 use Rattle.dfdl_checks.specs.Tests.{checks_of, tests_of}
 use Rattle.dfdl_chains.specs.declared.settings.Setter.{Setter}
 use Rattle.dfdl_components.specs.declared.site.Site.{Site}
-use Rattle.dfdl_breaches.specs.Judging.{form_before}
+use Rattle.dfdl_breaches.specs.Judging.{form_before, simple_told}
 use Rattle.dfdl_breaches.specs.declared.judgement.Judgement.{Judgement}
 
 -- what is told
@@ -23,6 +23,7 @@ abbrev pub judgement_of : Option Site → List Setter → Judged → Judgement
 judgement_of hidden settings j = record {
   breach = breach_of_component j;
   primitive = primitive_of j;
+  simple = simple_told j;
   framing = framing_of j;
   markup = delimiters_of j;
   size = size_of_box j;
@@ -33,6 +34,7 @@ judgement_of hidden settings j = record {
   initiates = initiates j;
   tests = tests_of j;
   checks = checks_of j;
+  output = output_of j;
   settings = settings;
   calculation = calculation_of j;
   measure = measure_of j;

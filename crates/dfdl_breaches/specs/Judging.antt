@@ -6,7 +6,7 @@ use Rattle.dfdl_documents.specs.Documents.{SchemaDocument}
 use Rattle.dfdl_components.specs.declared.site.Site.{Site}
 use Rattle.dfdl_components.specs.Globals.{site}
 use Rattle.dfdl_components.specs.Sites.{IsSite, role_of}
-use Rattle.dfdl_checks.specs.Calculations.{calculation_of, kind_for}
+use Rattle.dfdl_checks.specs.Calculations.{calculation_of, kind_for, output_of}
 use Rattle.dfdl_checks.specs.Judged.{Judged}
 use Rattle.dfdl_checks.specs.Keys.{key_expression, keys_of}
 use Rattle.dfdl_checks.specs.Measures.{count_expression, measure_of}
@@ -30,6 +30,8 @@ use Rattle.dfdl_checks.specs.declared.purpose.Purpose.{Purpose}
 use Rattle.dfdl_checks.specs.declared.purpose.Purpose.TheVariants.{Parsing, Unparsing}
 use Rattle.dfdl_checks.specs.declared.subject.Breach.{Breach}
 use Rattle.dfdl_checks.specs.declared.subject.Kind.{Kind}
+use Rattle.dfdl_checks.specs.declared.subject.Kind.TheVariants.{SimpleElement, CalculatedElement}
+use Rattle.dfdl_forms.specs.declared.simple.Simple.{Simple}
 use Rattle.dfdl_chains.specs.Facts.{facts_at}
 use Rattle.dfdl_chains.specs.Kinds.{kind_at}
 use Rattle.dfdl_chains.specs.Parts.{is_component}
@@ -90,6 +92,25 @@ breach_at purpose refused documents own = breach_of_component (judged_at purpose
 abbrev pub primitive_at : Purpose → (Site → Bool) → List SchemaDocument → Site → Option Primitive
 primitive_at purpose refused documents own = primitive_of (judged_at purpose refused documents own)
 
+-- the type of the values of a component of a kind, where it is one that is carried
+abbrev pub simple_of_kind : Kind → Option Simple
+simple_of_kind (SimpleElement simple) = Some simple
+simple_of_kind (CalculatedElement simple) = Some simple
+simple_of_kind _ = None
+
+-- the same for a purpose: no expression of unparsing asks for it
+abbrev pub simple_for : Purpose → Kind → Option Simple
+simple_for Parsing kind = simple_of_kind kind
+simple_for Unparsing kind = None
+
+-- the same of a component as the rules see it
+abbrev pub simple_told : Judged → Option Simple
+simple_told subject = simple_for subject.purpose subject.kind
+
+-- the same of an element of the documents
+abbrev pub simple_at : Purpose → (Site → Bool) → List SchemaDocument → Site → Option Simple
+simple_at purpose refused documents own = simple_told (judged_at purpose refused documents own)
+
 -- the fill around the content of a component
 abbrev pub framing_at : Purpose → (Site → Bool) → List SchemaDocument → Site → Framing
 framing_at purpose refused documents own = framing_of (judged_at purpose refused documents own)
@@ -139,6 +160,10 @@ built_tests_at purpose refused documents own = tests_of (judged_at purpose refus
 abbrev pub built_checks_at : Purpose → (Site → Bool) → List SchemaDocument → Site → List CheckForm
 built_checks_at purpose refused documents own = checks_of (judged_at purpose refused documents own)
 
+-- the expression by which the value of a component is calculated for writing, if it is
+abbrev pub output_at : Purpose → (Site → Bool) → List SchemaDocument → Site → Option (List ℕ)
+output_at purpose refused documents own = output_of (judged_at purpose refused documents own)
+
 -- a test of an expression is an element of the documents
 abbrev pub IsCheckOf : List SchemaDocument → CheckForm → Type 0
 IsCheckOf documents check = IsSite documents (site check.document check.element)
@@ -181,6 +206,7 @@ abbrev pub no_judgement : Judgement
 no_judgement = record {
   breach = None;
   primitive = None;
+  simple = None;
   framing = no_fill;
   markup = no_delimiters;
   size = None;
@@ -191,6 +217,7 @@ no_judgement = record {
   initiates = false;
   tests = [];
   checks = [];
+  output = None;
   settings = [];
   calculation = None;
   measure = None;
@@ -207,6 +234,7 @@ judgement_at purpose refused documents own =
     record {
       breach = breach_at purpose refused documents own;
       primitive = primitive_at purpose refused documents own;
+      simple = simple_at purpose refused documents own;
       framing = framing_at purpose refused documents own;
       markup = markup_at purpose refused documents own;
       size = size_at purpose refused documents own;
@@ -217,6 +245,7 @@ judgement_at purpose refused documents own =
       initiates = initiates_at purpose refused documents own;
       tests = built_tests_at purpose refused documents own;
       checks = built_checks_at purpose refused documents own;
+      output = output_at purpose refused documents own;
       settings = built_settings_at purpose documents own;
       calculation = calculation_at purpose refused documents own;
       measure = measure_at purpose refused documents own;

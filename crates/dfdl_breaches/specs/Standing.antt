@@ -39,6 +39,10 @@ is_bounding is_last kind chain = is_separated kind chain && asks_bound is_last (
 abbrev pub is_initiating : Kind → List Element → Bool
 is_initiating kind chain = is_plain_group kind && is_word (codes "yes") (told chain (codes "initiatedContent"))
 
+-- a choice by a key whose content is initiated: initiators of its branches resolve a point of uncertainty
+abbrev pub is_resolving : Kind → List Element → Bool
+is_resolving kind chain = is_keyed_by kind chain && is_initiating kind chain
+
 -- what a component of this kind with this chain asks of its last part, or of another
 abbrev pub asked_by : Bool → Kind → List Element → Standing
 asked_by is_last kind chain = record {
@@ -46,6 +50,7 @@ asked_by is_last kind chain = record {
   needs_bound = is_bounding is_last kind chain;
   needs_key = false;
   repeats_key = false;
+  resolves = is_resolving kind chain;
 }
 
 -- the same of an element of the documents
@@ -78,7 +83,7 @@ keys_at documents own = keys_of_chain (chain_at documents own)
 
 -- what a choice by a key asks of a branch that repeats a key, or of another
 abbrev pub asked_key : Bool → Standing
-asked_key again = record { is_initiated = false; needs_bound = false; needs_key = true; repeats_key = again }
+asked_key again = record { is_initiated = false; needs_bound = false; needs_key = true; repeats_key = again; resolves = false }
 
 -- what a choice by a key asks of a component among these branches, where those before have taken these keys
 abbrev pub keying_among : List SchemaDocument → List (List ℕ) → List Site → ℕ → Standing

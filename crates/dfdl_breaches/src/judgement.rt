@@ -4,6 +4,7 @@ use crate::setting_list::SettingList;
 use crate::test_list::TestList;
 use dfdl_checks::{Breach, KeyList, Markup, MeasureForm, OtherRepresentations, PrefixForm};
 use dfdl_components::Site;
+use dfdl_forms::Simple;
 use dfdl_terms::{Framing, Occurs, Primitive};
 use dfdl_value::TextValue;
 
@@ -14,6 +15,8 @@ pub struct Judgement {
     pub breach: Option<Breach>,
     /// How its values lie in the data, where they are of a type and of a size that are built.
     pub primitive: Option<Primitive>,
+    /// The type of its values, where it is one that is carried; for unparsing none, since no expression asks for it.
+    pub simple: Option<Simple>,
     /// The fill around its content.
     pub framing: Framing,
     /// Its initiator, its terminator and its separator.
@@ -34,6 +37,8 @@ pub struct Judgement {
     pub tests: TestList,
     /// Its tests of expressions, in their order.
     pub checks: CheckList,
+    /// The expression by which its value is calculated for writing, as it is written, if it is ('Calculated Values').
+    pub output: Option<TextValue>,
     /// What opens instances of variables at it, and then what sets variables, each in its order ('Syntax of DFDL Annotation Elements').
     pub settings: SettingList,
     /// The expression by which its value is calculated, as it is written, if it is ('Calculated Values').

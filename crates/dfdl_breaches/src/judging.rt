@@ -5,7 +5,7 @@ ghost use Rattle.dfdl_checks.specs.JudgedShown.{judged_of};
 ghost use Rattle.dfdl_checks.specs.Patterns.{form_by, length_pattern, pattern_prefix};
 ghost use Rattle.dfdl_checks.specs.Tests as tested;
 ghost use Rattle.dfdl_breaches.specs.BuildsShown.{IsToldBy, with_refused};
-ghost use Rattle.dfdl_breaches.specs.Judging.{form_or};
+ghost use Rattle.dfdl_breaches.specs.Judging.{form_or, simple_of_kind, simple_told};
 ghost use Rattle.dfdl_breaches.specs.JudgementShown.{judgement_of};
 
 use crate::check_list::CheckList;
@@ -14,13 +14,14 @@ use crate::setting_list::SettingList;
 use crate::test_list::TestList;
 use crate::testing::tests_of;
 use dfdl_checks::{
-    PrefixForm, Subject, branch_keys, breach, calculation, checks, count, delimiters_at, framing,
-    initiates, is_count_parsed, key, length_pattern, measure, message_of, occurrences,
-    other_representations, pattern_encoding, prefix, primitive, size_of_box,
+    Kind, PrefixForm, Purpose, Subject, branch_keys, breach, calculation, checks, count,
+    delimiters_at, framing, initiates, is_count_parsed, key, length_pattern, measure, message_of,
+    occurrences, other_representations, output_calculation, pattern_encoding, prefix, primitive,
+    size_of_box,
 };
 use dfdl_components::Site;
 use dfdl_edge::{PatternRefusal, Patterns};
-use dfdl_forms::Encoding;
+use dfdl_forms::{Encoding, Simple};
 use dfdl_length_patterns::LengthPattern;
 use dfdl_terms::{LengthUnit, PatternForm, Primitive};
 use std::alloc::{AllocError, Global};
@@ -51,6 +52,26 @@ fn form_by(encoding: Option<Encoding>, text: &str, pattern: LengthPattern) -> Op
     }
 }
 
+// The type of the values of a component of a kind, where it is one that is carried.
+fn simple_of_kind(kind: Kind) -> Option<Simple>
+    ensures { result ≡ simple_of_kind kind }
+{
+    match kind {
+        Kind::SimpleElement(simple) | Kind::CalculatedElement(simple) => Some(simple),
+        _ => None,
+    }
+}
+
+// The same of a component as the rules see it: no expression of unparsing asks for it.
+fn simple_told(subject: &Subject<'_, '_, '_>) -> Option<Simple>
+    ensures { result ≡ simple_told (judged_of subject.now) }
+{
+    match subject.purpose {
+        Purpose::Parsing => simple_of_kind(subject.kind),
+        Purpose::Unparsing => None,
+    }
+}
+
 // What is told of a component that hides a group or none, by what the rules see of it, its settings, its tests and its pattern.
 fn told_of(
     alloc: Global,
@@ -70,6 +91,7 @@ fn told_of(
     let prefix = prefix(alloc, subject)?;
     let others = other_representations(alloc, subject)?;
     let checks = CheckList::from_vec(checks(alloc, subject)?);
+    let output = message_of(alloc, output_calculation(subject))?;
     let calculation = message_of(alloc, calculation(subject))?;
     let measure = measure(alloc, subject)?;
     let count = count(alloc, subject)?;
@@ -78,6 +100,7 @@ fn told_of(
     Ok(Judgement {
         breach,
         primitive,
+        simple: simple_told(subject),
         framing: framing(subject),
         markup,
         size: size_of_box(subject),
@@ -88,6 +111,7 @@ fn told_of(
         initiates: initiates(subject),
         tests,
         checks,
+        output,
         settings,
         calculation,
         measure,

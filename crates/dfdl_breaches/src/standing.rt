@@ -40,6 +40,7 @@ fn nowhere() -> Standing
         needs_bound: false,
         needs_key: false,
         repeats_key: false,
+        resolves: false,
     }
 }
 
@@ -52,6 +53,7 @@ fn both_of(one: Standing, other: Standing) -> Standing
         needs_bound: one.needs_bound || other.needs_bound,
         needs_key: one.needs_key || other.needs_key,
         repeats_key: one.repeats_key || other.repeats_key,
+        resolves: one.resolves || other.resolves,
     }
 }
 
@@ -104,6 +106,13 @@ fn is_initiating(kind: Kind, chain: &Component<'_, '_>) -> bool
     is_group(kind) && is_word(chain, "initiatedContent", "yes")
 }
 
+// Whether it is a choice by a key whose content is initiated.
+fn is_resolving(kind: Kind, chain: &Component<'_, '_>) -> bool
+    ensures { result ≡ spec.is_resolving kind (chain_of chain.now) }
+{
+    is_keyed_by(kind, chain) && is_initiating(kind, chain)
+}
+
 // What a component of a kind asks of its last part, or of another.
 fn asked_by(is_last: bool, kind: Kind, chain: &Component<'_, '_>) -> Standing
     ensures { result ≡ spec.asked_by is_last kind (chain_of chain.now) }
@@ -113,6 +122,7 @@ fn asked_by(is_last: bool, kind: Kind, chain: &Component<'_, '_>) -> Standing
         needs_bound: is_bounding(is_last, kind, chain),
         needs_key: false,
         repeats_key: false,
+        resolves: is_resolving(kind, chain),
     }
 }
 
@@ -278,6 +288,7 @@ fn asked_key(again: bool) -> Standing
         needs_bound: false,
         needs_key: true,
         repeats_key: again,
+        resolves: false,
     }
 }
 

@@ -215,6 +215,7 @@ fn nothing_told(alloc: Global) -> Judgement
     Judgement {
         breach: None,
         primitive: None,
+        simple: None,
         framing: Framing::none(),
         markup: Markup {
             initiator: None,
@@ -237,6 +238,7 @@ fn nothing_told(alloc: Global) -> Judgement
         initiates: false,
         tests: TestList::from_vec(Vec::new(alloc)),
         checks: CheckList::from_vec(Vec::new(alloc)),
+        output: None,
         settings: SettingList::from_vec(Vec::new(alloc)),
         calculation: None,
         measure: None,

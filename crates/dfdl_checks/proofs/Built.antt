@@ -8,7 +8,6 @@ use Rattle.dfdl_scope.specs.Table.{Row, row, Words, Missing, property_table, row
 use Rattle.dfdl_checks.proofs.Flawless.{flawless, HasNoFlaw, HasBuilt, value-built, given-built, among-words}
 use Rattle.dfdl_checks.proofs.Kept.{IsKept, expressions-kept, given-kept, values-kept}
 use Rattle.dfdl_checks.proofs.Once.{is_twice, told-once}
-use Rattle.dfdl_checks.specs.Keys.{is_keyed_and_initiated}
 use Rattle.dfdl_checks.specs.Applying.{is_bearer}
 use Rattle.dfdl_checks.specs.Flaws.{has_flaw}
 use Rattle.dfdl_checks.specs.Judged.{Judged}
@@ -28,7 +27,7 @@ all-hold a b x y = grind (arith, x, y)
 pub flawless-by : (s : Judged) → IsKept s → (i : ℕ) (a : Applicability) → slice_get applicability_table i ≡ Some a → is_bearer a.bearers s ≡ true
     → (r : Row) → row_named property_table a.name ≡ Some r → HasNoFlaw r (built_for s.purpose a) (told_at s a.name)
 flawless-by s kept i a there bearer r named = record {
-  unbuilt = flawless flaws.Unbuilt s (last (is_keyed_and_initiated s) (has_flaw flaws.Unbuilt s) (last (is_later_component s) _ kept.built)) i a there bearer r named;
+  unbuilt = flawless flaws.Unbuilt s (last (is_later_component s) (has_flaw flaws.Unbuilt s) kept.built) i a there bearer r named;
   missing = flawless flaws.Missing s (given-kept s kept) i a there bearer r named;
   not_carried = flawless flaws.NotCarried s carried i a there bearer r named;
   expression = flawless flaws.Expression s (expressions-kept s kept) i a there bearer r named;

@@ -12,22 +12,23 @@ use Rattle.dfdl_terms.specs.declared.row.Primitive.{Primitive}
 use Rattle.dfdl_terms.specs.declared.row.Primitive.TheVariants.{Integer, Packed, Truth, Octets, Text, NilOctets, Default, NilValues, Pattern}
 use Rattle.dfdl_terms.specs.declared.text.NilForm.{NilForm}
 use Rattle.dfdl_terms.specs.declared.text.NilTexts.{NilTexts}
-use Rattle.dfdl_terms.specs.declared.text.NilTexts.TheVariants.{Literals, Character}
+use Rattle.dfdl_literals.specs.declared.pad.PadCharacter.{PadCharacter}
+use Rattle.dfdl_literals.specs.declared.pad.PadCharacter.TheVariants as pads
+use Rattle.dfdl_terms.specs.declared.text.NilTexts.TheVariants.{Literals}
 use Rattle.dfdl_checks.proofs.Built.{all-hold, built-at}
 use Rattle.dfdl_checks.proofs.Flawless.{HasBuilt, among-words}
 use Rattle.dfdl_checks.proofs.Kept.{IsKept, keeps-all}
 use Rattle.dfdl_checks.proofs.Primitives.{IsOf, of-component}
 use Rattle.dfdl_checks.proofs.Sound.{has-primitive}
 use Rattle.dfdl_checks.proofs.SoundBoxes.{encoding-told, some-mapped}
-use Rattle.dfdl_checks.proofs.SoundPads.{some-single}
 use Rattle.dfdl_checks.specs.Keys.{is_key_malformed}
 use Rattle.dfdl_checks.specs.Delimiters.{is_delimiter_malformed}
 use Rattle.dfdl_checks.specs.Encodings.{encoding_told}
 use Rattle.dfdl_checks.specs.Judged.{Judged}
-use Rattle.dfdl_checks.specs.Nils.{are_literals_malformed, is_length_fixed, is_nil_by_character, is_nil_by_literals, is_nil_by_value, is_nil_unfit, literals_told, nil_character, nil_form_by, nil_form_of, nil_literals, nil_texts}
+use Rattle.dfdl_checks.specs.Nils.{are_literals_malformed, is_length_fixed, is_nil_by_character, is_nil_by_literals, is_nil_by_value, is_nil_other, is_nil_unfit, literals_told, nil_byte, nil_character, nil_form_by, nil_form_of, nil_literals, nil_texts, texts_by}
 use Rattle.dfdl_checks.specs.NilValues.{is_nil_no_value, is_no_value, nil_values, values_in}
 use Rattle.dfdl_checks.specs.Numbers.{primitive_of}
-use Rattle.dfdl_checks.specs.Pads.{is_malformed, single}
+use Rattle.dfdl_checks.specs.Pads.{is_malformed, is_other, single}
 use Rattle.dfdl_checks.specs.Representations.{nil_by, nil_in, nil_of, representations_by, representations_for, representations_of}
 use Rattle.dfdl_checks.specs.Rules.{are_truth_texts_malformed, first_breach, is_pad_malformed, is_separator_malformed, is_type_not_carried, rules}
 use Rattle.dfdl_checks.specs.FillBytes.{is_fill_malformed}
@@ -70,9 +71,12 @@ some-list : (o : Option (List (List Piece))) → is_some o ≡ true → is_some 
 some-list (Some l) some = refl
 some-list None some = grind (arith, some)
 
-some-character : (o : Option ℕ) → is_some o ≡ true → is_some (option_map Character o) ≡ true
-some-character (Some c) some = refl
-some-character None some = grind (arith, some)
+-- what is neither malformed nor without a character and a byte is one of these
+one-of-both : (p : PadCharacter) (byte : Option ℕ) → is_malformed p ≡ false → (is_other p && not (is_some byte)) ≡ false → is_some (texts_by (single p) byte) ≡ true
+one-of-both (pads.Character c) byte well one = refl
+one-of-both pads.Malformed byte well one = grind (arith, well)
+one-of-both pads.Other (Some b) well one = refl
+one-of-both pads.Other None well one = grind (arith, one)
 
 module _ (s : Judged) (kept : IsKept s) (nillable : is_nillable s ≡ true) where
   -- nil is by literals, by a character or by values
@@ -110,10 +114,10 @@ module _ (s : Judged) (kept : IsKept s) (nillable : is_nillable s ≡ true) wher
       first : (a b c : Bool) → a ≡ true → ((a && b) || c) ≡ false → b ≡ false
       first a b c x y = grind (arith, x, y)
 
-  as-character : is_nil_by_character s ≡ true → is_some (single (nil_character s)) ≡ true
+  as-character : is_nil_by_character s ≡ true → is_some (texts_by (single (nil_character s)) (nil_byte s)) ≡ true
   as-character character =
-      some-single (nil_character s) (second _ (is_nil_by_character s) _ character well-formed)
-      (unfit (is_complex s.kind && s.facts.is_nillable) (is_nil_by_character s) _ (not (is_length_fixed s)) (is_nil_no_value s) character kept.nil)
+      one-of-both (nil_character s) (nil_byte s) (second _ (is_nil_by_character s) _ character well-formed)
+      (unfit (is_complex s.kind && s.facts.is_nillable) (is_nil_by_character s) (is_nil_other s) (not (is_length_fixed s)) (is_nil_no_value s) character kept.nil)
     where
       second : (a b c : Bool) → b ≡ true → (a || (b && c)) ≡ false → c ≡ false
       second a b c x y = grind (arith, x, y)
@@ -128,9 +132,9 @@ module _ (s : Judged) (kept : IsKept s) (nillable : is_nillable s ≡ true) wher
       first a b x = grind (arith, x)
 
       by : (a b : Bool) → is_nil_by_literals s ≡ a → is_nil_by_character s ≡ b
-          → is_some (if a then option_map Literals (nil_literals s) else if b then option_map Character (single (nil_character s)) else None) ≡ true
+          → is_some (if a then option_map Literals (nil_literals s) else if b then texts_by (single (nil_character s)) (nil_byte s) else None) ≡ true
       by true b literals other = some-list _ (as-literals (first (is_nil_by_literals s) _ literals))
-      by false true other character = some-character _ (as-character character)
+      by false true other character = as-character character
       by false false other neither = let apart : true ≡ false = sym (by-character no-value other) ∙ neither in grind (arith, apart)
 
   some-encoding : is_nil_by_value s ≡ false → is_some (encoding_told (told_at s (codes "encoding"))) ≡ true

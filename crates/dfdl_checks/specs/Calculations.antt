@@ -1,6 +1,6 @@
 -- The values of elements that are calculated ('Calculated Values'). For parsing an element with an expression inputValueCalc has no
--- representation, and outputValueCalc has no effect; for unparsing neither is built.
-use Rattle.std.specs.Prelude.{ℕ, List, Bool, true, false, not, ◌&&◌, ◌||◌, Option, Some, None, codes}
+-- representation, and the expression outputValueCalc, by which an element is written, is judged and never computed; for unparsing neither is built.
+use Rattle.std.specs.Prelude.{ℕ, List, Bool, true, false, not, ◌&&◌, ◌||◌, Option, Some, None, codes, if◌then◌else◌}
 use Rattle.dfdl_scope.specs.Scoping.{Element, Told, Value, Absent, Twice, told}
 use Rattle.dfdl_checks.specs.Judged.{FactsJudged, Judged}
 use Rattle.dfdl_checks.specs.Occurrences.{is_once}
@@ -44,6 +44,23 @@ calculation_by _ told = None
 -- the expression by which the component's value is calculated, if it is
 abbrev pub calculation_of : Judged → Option (List ℕ)
 calculation_of subject = calculation_by subject.kind (told_at subject (codes "inputValueCalc"))
+
+-- what is told of the value by which an element of a kind is written, where its type is simple and carried
+abbrev pub output_by : Kind → Told → Option (List ℕ)
+output_by (SimpleElement simple) told = written_told told
+output_by (CalculatedElement simple) told = written_told told
+output_by _ told = None
+
+-- the expression by which the component's value is calculated for writing, if it is; it is told for parsing alone
+abbrev pub output_for : Purpose → Judged → Option (List ℕ)
+output_for Parsing subject =
+    if is_single subject.facts && is_expression_told (told_at subject (codes "outputValueCalc"))
+    then output_by subject.kind (told_at subject (codes "outputValueCalc")) else None
+output_for Unparsing subject = None
+
+-- the same for the component's purpose
+abbrev pub output_of : Judged → Option (List ℕ)
+output_of subject = output_for subject.purpose subject
 
 -- an element of a simple type
 abbrev pub is_of_simple_type : Kind → Bool

@@ -128,6 +128,11 @@ is_empty_delimited subject =
     (has_delimiter subject (codes "initiator") && is_in_empty subject (codes "initiator"))
     || (has_delimiter subject (codes "terminator") && is_in_empty subject (codes "terminator"))
 
+-- where the delimiter of this name is found, it resolves a point of uncertainty, as an initiator does of a branch of a choice by a key
+-- whose content is initiated
+abbrev pub is_resolving : Judged → List ℕ → Bool
+is_resolving subject name = bytes_eq name (codes "initiator") && subject.standing.resolves
+
 -- these literals in this encoding at the component; with ignoreCase ASCII letters match in both cases
 abbrev pub list_with : Judged → List (List Piece) → Encoding → Delimiters
 list_with subject literals encoding = record { literals = literals; encoding = encoding; fold = is_told subject (codes "ignoreCase") (codes "yes") }
@@ -138,6 +143,7 @@ delimiting_with subject name literals encoding = record {
   list = list_with subject literals encoding;
   in_nil = is_in_nil subject name;
   in_empty = is_in_empty subject name;
+  resolves = is_resolving subject name;
 }
 
 -- the same, where it has literals and its encoding is told

@@ -10,7 +10,7 @@ use Rattle.dfdl_scope.specs.Scoping.{Element, Told, Value, Absent, Twice, told}
 use Rattle.dfdl_checks.specs.BooleanTexts.{is_list_malformed}
 use Rattle.dfdl_checks.specs.Calculations.{is_given, written_told}
 use Rattle.dfdl_checks.specs.Judged.{Judged}
-use Rattle.dfdl_checks.specs.Subjects.{is_choice, is_told, told_at}
+use Rattle.dfdl_checks.specs.Subjects.{is_choice, told_at}
 use Rattle.dfdl_checks.specs.declared.purpose.Purpose.{Purpose}
 use Rattle.dfdl_checks.specs.declared.purpose.Purpose.TheVariants.{Parsing, Unparsing}
 use Rattle.dfdl_checks.specs.declared.subject.Kind.{Kind}
@@ -22,10 +22,6 @@ is_keyed_by kind chain = is_choice kind && is_given (told chain (codes "choiceDi
 -- the same of the component
 abbrev pub is_keyed : Judged → Bool
 is_keyed subject = is_keyed_by subject.kind subject.chain
-
--- a choice by a key whose content is initiated, which is built later
-abbrev pub is_keyed_and_initiated : Judged → Bool
-is_keyed_and_initiated subject = is_keyed subject && is_told subject (codes "initiatedContent") (codes "yes")
 
 -- what is told as the keys of a branch; an expression is told of elsewhere
 abbrev pub keys_told : Told → TextList

@@ -9,7 +9,7 @@ use Rattle.dfdl_terms.specs.declared.row.Primitive.{Primitive}
 use Rattle.dfdl_terms.specs.declared.row.Primitive.TheVariants.{Integer, Packed, Truth, Octets, Text, NilOctets, Default, NilValues, Pattern}
 use Rattle.dfdl_terms.specs.declared.text.NilForm.{NilForm}
 use Rattle.dfdl_terms.specs.declared.text.NilTexts.{NilTexts}
-use Rattle.dfdl_terms.specs.declared.text.NilTexts.TheVariants.{Literals, Character}
+use Rattle.dfdl_terms.specs.declared.text.NilTexts.TheVariants.{Literals, Character, Byte}
 use Rattle.dfdl_terms.specs.declared.text.TextContent.TheVariants.{Nil}
 use Rattle.dfdl_terms.specs.declared.text.TextForm.{TextForm}
 use Rattle.dfdl_terms.specs.declared.text.TextSize.{TextSize}
@@ -31,10 +31,11 @@ use Rattle.dfdl_checks.specs.declared.subject.Kind.TheVariants.{SimpleElement}
 use Rattle.dfdl_checks.specs.declared.tried.EmptyRepresentation.{EmptyRepresentation}
 use Rattle.dfdl_checks.specs.declared.tried.OtherRepresentations.{OtherRepresentations}
 
--- what is trimmed before a text is compared with those of nil: pad characters before literals, nothing before one character
+-- what is trimmed before a text is compared with those of nil: pad characters before literals, nothing before one character or byte
 abbrev pub nil_pad : NilTexts → PadForm → PadForm
 nil_pad (Literals literals) pad = pad
 nil_pad (Character c) pad = record pad { trim = None }
+nil_pad (Byte b) pad = record pad { trim = None }
 
 -- nil in place of what a text is read as
 abbrev pub nil_text : NilForm → TextForm → TextForm

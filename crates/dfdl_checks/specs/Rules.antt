@@ -17,7 +17,7 @@ use Rattle.dfdl_checks.specs.Defaults.{is_default_not_allowed}
 use Rattle.dfdl_checks.specs.Delimiters.{is_delimiter_empty, is_delimiter_malformed, is_delimiter_not_encoded}
 use Rattle.dfdl_checks.specs.Encodings.{encoding_told, is_other_encoding}
 use Rattle.dfdl_checks.specs.FillBytes.{is_fill_malformed, is_fill_other}
-use Rattle.dfdl_checks.specs.Keys.{is_key_malformed, is_key_unfit, is_keyed_and_initiated}
+use Rattle.dfdl_checks.specs.Keys.{is_key_malformed, is_key_unfit}
 use Rattle.dfdl_checks.specs.Lengths.{constant_length, size_within}
 use Rattle.dfdl_checks.specs.NewLines.{is_new_line_expression, is_new_line_other}
 use Rattle.dfdl_checks.specs.NilValues.{is_nil_not_allowed}
@@ -65,10 +65,9 @@ is_later_component subject =
     is_later_group subject.purpose subject.kind || has_later_type subject.purpose subject.kind || has_later_statements subject.purpose subject
     || (is_element subject.kind && is_later_element subject.purpose subject)
 
--- 3: the component, or the value of a property that applies to it, is of a form that is built later; or it is a choice by a key whose
--- content is initiated
+-- 3: the component, or the value of a property that applies to it, is of a form that is built later
 abbrev pub is_unbuilt : Judged → Bool
-is_unbuilt subject = is_later_component subject || (is_keyed_and_initiated subject || has_flaw flaws.Unbuilt subject)
+is_unbuilt subject = is_later_component subject || has_flaw flaws.Unbuilt subject
 
 -- 6: where the component's chain first gives a property of the profile that is given again
 abbrev pub property_twice : Judged → Option Place

@@ -35,6 +35,32 @@ pub fn calculation<'c>(subject: &Subject<'_, '_, 'c>) -> Option<&'c str>
     }
 }
 
+/// The expression by which a component's value is calculated for writing, as it is written, if it is; it is told for parsing alone.
+pub fn output_calculation<'c>(subject: &Subject<'_, '_, 'c>) -> Option<&'c str>
+    ensures { option_copied result ≡ spec.output_of (judged_of subject.now) }
+{
+    match subject.purpose {
+        Purpose::Parsing => output_parsed(subject),
+        Purpose::Unparsing => None,
+    }
+}
+
+// The same for parsing.
+fn output_parsed<'c>(subject: &Subject<'_, '_, 'c>) -> Option<&'c str>
+    ensures { option_copied result ≡ spec.output_for Purpose.Parsing (judged_of subject.now) }
+{
+    let told = property(subject.chain, "outputValueCalc");
+    if !(is_single(subject.facts) && is_expression_told(told)) {
+        return None;
+    }
+    match subject.kind {
+        Kind::SimpleElement(_) | Kind::CalculatedElement(_) => {
+            written_told(property(subject.chain, "outputValueCalc"))
+        }
+        _ => None,
+    }
+}
+
 /// Whether inputValueCalc or outputValueCalc stands at an element where none may, or both at one element.
 pub(crate) fn is_calculation_not_allowed(subject: &Subject<'_, '_, '_>) -> bool
     ensures { result ≡ spec.is_calculation_not_allowed (judged_of subject.now) }

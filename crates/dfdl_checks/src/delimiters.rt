@@ -31,6 +31,8 @@ pub struct Delimiting {
     pub in_nil: bool,
     /// It stands in the empty representation too ('DFDL Data Syntax Grammar').
     pub in_empty: bool,
+    /// Where it is found, it resolves a point of uncertainty ('Choices', on choices by a key with initiated content).
+    pub resolves: bool,
 }
 
 /// The separator of a sequence ('Sequence Groups').
@@ -159,7 +161,15 @@ fn delimiting_with(
         list: list_with(subject, literals, encoding),
         in_nil: is_named(name, property(subject.chain, "nilValueDelimiterPolicy")),
         in_empty: is_in_empty(subject, name),
+        resolves: is_resolving(subject, name),
     }
+}
+
+/// Whether a delimiter of a component resolves a point of uncertainty where it is found.
+fn is_resolving(subject: &Subject<'_, '_, '_>, name: &str) -> bool
+    ensures { result ≡ delimiters.is_resolving (judged_of subject.now) name.now }
+{
+    name == "initiator" && subject.standing.resolves
 }
 
 /// Literals in an encoding at a component; with ignoreCase ASCII letters match in both cases.

@@ -12,7 +12,6 @@ use crate::expression_tests::message_of;
 use crate::key_list::KeyList;
 use crate::kinds::is_choice;
 use crate::purpose::Purpose;
-use crate::representations::is_word;
 use crate::subject::{Kind, Subject};
 use dfdl_forms::PlainTexts;
 use dfdl_literals::{TextList, text_list};
@@ -25,13 +24,6 @@ pub fn is_keyed_by(kind: Kind, chain: &Component<'_, '_>) -> bool
     ensures { result ≡ spec.is_keyed_by kind (chain_of chain.now) }
 {
     is_choice(kind) && is_given(property(chain, "choiceDispatchKey"))
-}
-
-/// Whether it is one whose content is initiated.
-pub(crate) fn is_keyed_and_initiated(subject: &Subject<'_, '_, '_>) -> bool
-    ensures { result ≡ spec.is_keyed_and_initiated (judged_of subject.now) }
-{
-    is_keyed_by(subject.kind, subject.chain) && is_word(subject.chain, "initiatedContent", "yes")
 }
 
 /// What is told as the keys of a branch.

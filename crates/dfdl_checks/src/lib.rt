@@ -66,7 +66,7 @@ mod values;
 mod zoned_texts;
 
 pub use boxes::size_of_box;
-pub use calculations::{calculation, kind_for};
+pub use calculations::{calculation, kind_for, output_calculation};
 pub use delimiters::{Delimiting, Markup, Separating, delimiters_at, is_delimiter};
 pub use expression_tests::{CheckForm, checks, message_of};
 pub use fill::framing;

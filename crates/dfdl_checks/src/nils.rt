@@ -10,10 +10,12 @@ ghost use Rattle.dfdl_scope.specs.Told.{told_by};
 
 use crate::encodings::encoding_told;
 use crate::pads::{is_malformed, is_other, is_outside, lacks_character, single};
-use crate::representations::{is_explicit, is_nillable, is_word};
+use crate::representations::{is_explicit, is_nillable, is_text, is_word};
 use crate::subject::Subject;
 use dfdl_forms::{Encoding, Literals, Piece};
-use dfdl_literals::{LiteralFault, PadCharacter, pad_character, read_literals};
+use dfdl_literals::{
+    FillByte, LiteralFault, PadCharacter, fill_byte, pad_character, read_literals,
+};
 use dfdl_scope::{Asked, is_expression, literal, property};
 use dfdl_terms::{NilForm, NilTexts};
 use std::alloc::{AllocError, Global};
@@ -25,7 +27,7 @@ fn is_nil_by_literals(subject: &Subject<'_, '_, '_>) -> bool
     is_nillable(subject) && is_word(subject.chain, "nilKind", "literalValue")
 }
 
-/// Whether nil is one or more of a character.
+/// Whether nil is one or more of a character, or of a byte.
 fn is_nil_by_character(subject: &Subject<'_, '_, '_>) -> bool
     ensures { result ≡ nils.is_nil_by_character (judged_of subject.now) }
 {
@@ -108,6 +110,50 @@ fn nil_character(subject: &Subject<'_, '_, '_>) -> PadCharacter
     ensures { result ≡ nils.nil_character (judged_of subject.now) }
 {
     nil_character_told(property(subject.chain, "nilValue"))
+}
+
+/// The byte that a text stands for, if it is one.
+fn byte_in(byte: FillByte) -> Option<u8>
+    ensures { result ≡ nils.byte_in byte }
+{
+    match byte {
+        FillByte::Byte(byte) => Some(byte),
+        FillByte::Malformed | FillByte::Other => None,
+    }
+}
+
+/// The raw byte that a text is, by the character and by the byte that it stands for: a raw byte is no character.
+fn raw_byte(character: PadCharacter, byte: FillByte) -> Option<u8>
+    ensures { result ≡ nils.raw_byte character byte }
+{
+    match character {
+        PadCharacter::Character(_) | PadCharacter::Malformed => None,
+        PadCharacter::Other => byte_in(byte),
+    }
+}
+
+/// The raw byte that the text of the character of nil is, if it is one.
+fn nil_byte_told(told: Asked<'_>) -> Option<u8>
+    ensures { result ≡ nils.nil_byte_told (told_by told.entry) }
+{
+    match told {
+        Asked::Given(written) if is_expression(written) => None,
+        Asked::Given(written) => {
+            raw_byte(pad_character(literal(written)), fill_byte(literal(written)))
+        }
+        Asked::Absent => None,
+        Asked::Twice { .. } => None,
+    }
+}
+
+/// The raw byte of nil at a component; a text has none.
+fn nil_byte(subject: &Subject<'_, '_, '_>) -> Option<u8>
+    ensures { result ≡ nils.nil_byte (judged_of subject.now) }
+{
+    if is_text(subject) {
+        return None;
+    }
+    nil_byte_told(property(subject.chain, "nilValue"))
 }
 
 /// Whether it is an element that may be nil, whose texts of nil are no list of literals.
@@ -201,12 +247,18 @@ fn is_length_fixed(subject: &Subject<'_, '_, '_>) -> bool
     is_explicit(subject) || is_word(subject.chain, "lengthKind", "implicit")
 }
 
-/// Whether nil is by what is no single character, or by one where the length is neither the element's own nor that of its
-/// type.
+/// Whether nil is told by what is no single character, and no raw byte where the content is no text.
+fn is_nil_other(subject: &Subject<'_, '_, '_>) -> bool
+    ensures { result ≡ nils.is_nil_other (judged_of subject.now) }
+{
+    is_other(nil_character(subject)) && nil_byte(subject).is_none()
+}
+
+/// Whether nil is by such, or by a character or a byte where the length is neither the element's own nor that of its type.
 pub(crate) fn is_nil_unfit(subject: &Subject<'_, '_, '_>) -> bool
     ensures { result ≡ nils.is_nil_unfit (judged_of subject.now) }
 {
-    is_nil_by_character(subject) && (is_other(nil_character(subject)) || !is_length_fixed(subject))
+    is_nil_by_character(subject) && (is_nil_other(subject) || !is_length_fixed(subject))
 }
 
 /// The texts of nil by literals at a component.
@@ -222,13 +274,23 @@ fn literal_texts(
     }
 }
 
-/// The texts of nil by a character.
-fn character_texts(character: Option<char>) -> Option<NilTexts>
-    ensures { result ≡ option_map NilTexts.Character character }
+/// Nil by a byte.
+fn byte_texts(byte: Option<u8>) -> Option<NilTexts>
+    ensures { result ≡ option_map NilTexts.Byte byte }
+{
+    match byte {
+        Some(byte) => Some(NilTexts::Byte(byte)),
+        None => None,
+    }
+}
+
+/// Nil by a character, else by a byte.
+fn texts_by(character: Option<char>, byte: Option<u8>) -> Option<NilTexts>
+    ensures { result ≡ nils.texts_by character byte }
 {
     match character {
         Some(c) => Some(NilTexts::Character(c)),
-        None => None,
+        None => byte_texts(byte),
     }
 }
 
@@ -240,7 +302,7 @@ fn nil_texts(alloc: Global, subject: &Subject<'_, '_, '_>) -> Result<Option<NilT
         return literal_texts(alloc, subject);
     }
     if is_nil_by_character(subject) {
-        return Ok(character_texts(single(nil_character(subject))));
+        return Ok(texts_by(single(nil_character(subject)), nil_byte(subject)));
     }
     Ok(None)
 }

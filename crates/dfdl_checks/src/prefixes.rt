@@ -52,6 +52,7 @@ const NOWHERE: Standing = Standing {
     needs_bound: false,
     needs_key: false,
     repeats_key: false,
+    resolves: false,
 };
 
 /// How the prefix of an element lies in the data, and how many units of its own it counts; nothing for every other

@@ -11,7 +11,7 @@ use crate::delimiters::is_delimiter_empty;
 use crate::fill_bytes::is_fill_other;
 use crate::flaw::Flaw;
 use crate::flaws::has_flaw;
-use crate::keys::{is_key_unfit, is_keyed_and_initiated};
+use crate::keys::is_key_unfit;
 use crate::kinds::{is_bare, is_choice, is_element, is_simple};
 use crate::length_rules::{
     is_length_in_characters, is_length_kind_not_allowed, is_length_out_of_range,
@@ -225,9 +225,7 @@ fn told_here(
 fn is_unbuilt(subject: &Subject<'_, '_, '_>) -> bool
     ensures { result ≡ spec.is_unbuilt (judged_of subject.now) }
 {
-    is_later_component(subject)
-        || is_keyed_and_initiated(subject)
-        || has_flaw(Flaw::Unbuilt, subject)
+    is_later_component(subject) || has_flaw(Flaw::Unbuilt, subject)
 }
 
 /// Whether the component is of a kind that is built later.

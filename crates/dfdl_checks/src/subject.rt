@@ -77,6 +77,9 @@ pub struct Standing {
     pub needs_key: bool,
     /// It has a key twice, or one of a branch before it.
     pub repeats_key: bool,
+    /// Among the branches of a choice by a key whose content is initiated: where its initiator is found, the innermost point of
+    /// uncertainty around the choice is resolved ('Choices').
+    pub resolves: bool,
 }
 
 /// The type that a component's property prefixLengthType names.

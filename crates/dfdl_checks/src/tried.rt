@@ -257,7 +257,7 @@ fn nil_pad(texts: &NilTexts, pad: PadForm) -> PadForm
 {
     match texts {
         NilTexts::Literals(_) => pad,
-        NilTexts::Character(_) => PadForm { trim: None, ..pad },
+        NilTexts::Character(_) | NilTexts::Byte(_) => PadForm { trim: None, ..pad },
     }
 }
 

@@ -45,14 +45,6 @@ three_pushed old first second third a b c first_is second_is third_is =
     ∙ (ap (λ (xs : List Noted). xs ++ c) (second_is ∙ ap (λ (xs : List Noted). xs ++ b) first_is)
     ∙ (append_assoc (old ++ a) b c ∙ append_assoc old a (b ++ c)))
 
--- two lists one after the other
-pub two_pushed : (old first second a b : List Noted) → first ≡ old ++ a → second ≡ first ++ b → second ≡ old ++ (a ++ b)
-two_pushed old first second a b first_is second_is = second_is ∙ (ap (λ (xs : List Noted). xs ++ b) first_is ∙ append_assoc old a b)
-
--- each of two lists one after the other
-pub two_within : {X : Type 0} (P : X → Type 0) (a b : List X) → All P a → All P b → All P (a ++ b)
-two_within P a b first second = All-append P a b first second
-
 -- each of three lists one after the other
 pub three_within : {X : Type 0} (P : X → Type 0) (a b c : List X) → All P a → All P b → All P c → All P (a ++ (b ++ c))
 three_within P a b c first second third = All-append P a (b ++ c) first (All-append P b c second third)
@@ -60,22 +52,22 @@ three_within P a b c first second third = All-append P a (b ++ c) first (All-app
 -- the expressions that are properties behind what stands before them
 pub expressions_behind : (documents : List SchemaDocument) (own : Site) (stated : Stated) (old parts new : List Noted)
     → parts ≡ old ++ noted_parts documents (place_of documents own) own stated.tests stated.settings stated.checks
-    → new ≡ parts ++ noted_expressions documents (place_of documents own) own stated.calculation stated.measure stated.count stated.key → new ≡ old ++ noted_from documents own stated
+    → new ≡ parts ++ noted_expressions documents (place_of documents own) own stated.output stated.calculation stated.measure stated.count stated.key → new ≡ old ++ noted_from documents own stated
 expressions_behind documents own stated old parts new parts_is new_is =
     new_is
-    ∙ (ap (λ (xs : List Noted). xs ++ noted_expressions documents (place_of documents own) own stated.calculation stated.measure stated.count stated.key) parts_is
+    ∙ (ap (λ (xs : List Noted). xs ++ noted_expressions documents (place_of documents own) own stated.output stated.calculation stated.measure stated.count stated.key) parts_is
     ∙ append_assoc old (noted_parts documents (place_of documents own) own stated.tests stated.settings stated.checks)
-    (noted_expressions documents (place_of documents own) own stated.calculation stated.measure stated.count stated.key))
+    (noted_expressions documents (place_of documents own) own stated.output stated.calculation stated.measure stated.count stated.key))
 
 -- those so far with those of one component more
 pub more_within : (documents : List SchemaDocument) (place : Place) (own : Site) (stated : Stated) (old parts new : List Noted)
     → parts ≡ old ++ noted_parts documents place own stated.tests stated.settings stated.checks
-    → new ≡ parts ++ noted_expressions documents place own stated.calculation stated.measure stated.count stated.key
+    → new ≡ parts ++ noted_expressions documents place own stated.output stated.calculation stated.measure stated.count stated.key
     → IsSite documents own → StatesWithin documents stated → All (IsNotedWithin documents) old
-    → All (IsNotedWithin documents) (noted_expressions documents place own stated.calculation stated.measure stated.count stated.key) → All (IsNotedWithin documents) new
+    → All (IsNotedWithin documents) (noted_expressions documents place own stated.output stated.calculation stated.measure stated.count stated.key) → All (IsNotedWithin documents) new
 more_within documents place own stated old parts new parts_is new_is within stated_within all expressed =
     subst (λ (xs : List Noted). All (IsNotedWithin documents) xs) (sym new_is)
-    (All-append (IsNotedWithin documents) parts (noted_expressions documents place own stated.calculation stated.measure stated.count stated.key)
+    (All-append (IsNotedWithin documents) parts (noted_expressions documents place own stated.output stated.calculation stated.measure stated.count stated.key)
     (subst (λ (xs : List Noted). All (IsNotedWithin documents) xs) (sym parts_is)
     (All-append (IsNotedWithin documents) old (noted_parts documents place own stated.tests stated.settings stated.checks) all
     (parts_within documents place own stated.tests stated.settings stated.checks within stated_within.settings stated_within.checks))) expressed)

@@ -1,6 +1,6 @@
 -- The statements of the documents as they are written: of each component the tests of patterns, what opens instances of variables, what sets
--- variables, the tests of expressions, the calculation of its value, and the questions how long its content is, how often it occurs and which
--- branch is taken ('DFDL Schema Component Model', on asserts and discriminators; 'Syntax of DFDL Annotation Elements', on newVariableInstance
+-- variables, the tests of expressions, the calculations of its value, for writing and of one that has no representation, and the questions how
+-- long its content is, how often it occurs and which branch is taken ('DFDL Schema Component Model', on asserts and discriminators; 'Syntax of DFDL Annotation Elements', on newVariableInstance
 -- and setVariable; 'Calculated Values'; 'Lengths', on lengthKind explicit; 'Arrays and Optional Elements', on occursCountKind expression;
 -- 'Choices', on choiceDispatchKey).
 use Rattle.std.specs.Prelude.{◌≡◌, ℕ, List, [], ◌∷◌, ◌++◌, Bool, true, false, All, map, slice_get, Option, None, Some, option_map, unwrap_or, codes}
@@ -96,10 +96,15 @@ calculated_type documents own = unwrap_or (simple_of (kind_at documents own)) Un
 abbrev pub expression_site : List SchemaDocument → List ℕ → Site → Site
 expression_site documents name own = unwrap_or (writer_of documents (chain_sites documents own) name) own
 
--- the calculation of the value of a component
-abbrev pub noted_calculation : List SchemaDocument → Place → Site → List ℕ → Noted
-noted_calculation documents place own text =
-    noted_with place (expression_site documents (codes "inputValueCalc") own) (source.Calculation (calculated_type documents own) text)
+-- the property by which a value is calculated, for writing or not
+abbrev pub calculating_property : Bool → List ℕ
+calculating_property true = codes "outputValueCalc"
+calculating_property false = codes "inputValueCalc"
+
+-- the calculation of the value of a component, for writing or not
+abbrev pub noted_calculation : List SchemaDocument → Bool → Place → Site → List ℕ → Noted
+noted_calculation documents output place own text =
+    noted_with place (expression_site documents (calculating_property output) own) (source.Calculation (calculated_type documents own) text output)
 
 -- the property whose expression is asked
 abbrev pub property_asked : Asked → List ℕ
@@ -129,10 +134,12 @@ noted_questions documents place own measure count key =
     ++ (noted_if (noted_question documents place own asked.Count) count
     ++ noted_if (noted_question documents place own asked.Key) key)
 
--- the expressions that are properties of such a component: the calculation of its value, and the questions
-abbrev pub noted_expressions : List SchemaDocument → Place → Site → Option (List ℕ) → Option MeasureForm → Option (List ℕ) → Option (List ℕ) → List Noted
-noted_expressions documents place own calculation measure count key =
-    noted_if (noted_calculation documents place own) calculation ++ noted_questions documents place own measure count key
+-- the expressions that are properties of such a component: the calculations of its value, and the questions
+abbrev pub noted_expressions : List SchemaDocument → Place → Site → Option (List ℕ) → Option (List ℕ) → Option MeasureForm → Option (List ℕ) → Option (List ℕ)
+    → List Noted
+noted_expressions documents place own output calculation measure count key =
+    noted_if (noted_calculation documents true place own) output
+    ++ (noted_if (noted_calculation documents false place own) calculation ++ noted_questions documents place own measure count key)
 
 -- the statements before these, of a component that begins at this place
 abbrev pub noted_parts : List SchemaDocument → Place → Site → List PatternTest → List Setter → List CheckForm → List Noted
@@ -145,6 +152,7 @@ stated_by judgement = record {
   tests = judgement.tests;
   settings = judgement.settings;
   checks = judgement.checks;
+  output = judgement.output;
   calculation = judgement.calculation;
   measure = judgement.measure;
   count = judgement.count;
@@ -155,7 +163,7 @@ stated_by judgement = record {
 abbrev pub noted_from : List SchemaDocument → Site → Stated → List Noted
 noted_from documents own stated =
     noted_parts documents (place_of documents own) own stated.tests stated.settings stated.checks
-    ++ noted_expressions documents (place_of documents own) own stated.calculation stated.measure stated.count stated.key
+    ++ noted_expressions documents (place_of documents own) own stated.output stated.calculation stated.measure stated.count stated.key
 
 -- the statements of a component of which this is told
 abbrev pub noted_by : List SchemaDocument → Site → Judgement → List Noted

@@ -1,4 +1,4 @@
-// The expressions that are properties of a component: the calculation of its value, and the questions that its rows ask.
+// The expressions that are properties of a component: the calculations of its value, and the questions that its rows ask.
 ghost use Rattle.std.specs.Prelude.{◌≡◌, ◌++◌, [], ◌∷◌, All, IfOk, OnOk, option_map, unwrap_or};
 ghost use Rattle.dfdl_components.specs.Sites.{IsSite};
 ghost use Rattle.dfdl_chains.specs.Shown.{AreNumbers};
@@ -47,11 +47,23 @@ fn expression_site(
     Ok(writer_in(schema, chain.as_slice(), name, site))
 }
 
-// Adds the calculation of the value of a component that begins at this place.
+// The property by which a value is calculated, for writing or not.
+fn calculating_property(output: bool) -> &'static str
+    ensures { result.now ≡ spec.calculating_property output }
+{
+    if output {
+        "outputValueCalc"
+    } else {
+        "inputValueCalc"
+    }
+}
+
+// Adds the calculation of the value of a component that begins at this place, for writing or not.
 fn push_calculation(
     alloc: Global,
     schema: &Schema,
     numbers: &Numbers,
+    output: bool,
     place: Place,
     site: Site,
     text: TextValue,
@@ -59,23 +71,24 @@ fn push_calculation(
 ) -> Result<(), AllocError>
     requires site { IsSite schema.now site }
     requires numbers { AreNumbers schema.now numbers.now }
-    ensures noted { OnOk result (noted.new.items ≡ noted.old.items ++ spec.noted_calculation schema.now place site text ∷ []) }
-    ensures within { OnOk result (spec.IsNotedWithin schema.now (spec.noted_calculation schema.now place site text)) }
+    ensures noted { OnOk result (noted.new.items ≡ noted.old.items ++ spec.noted_calculation schema.now output place site text ∷ []) }
+    ensures within { OnOk result (spec.IsNotedWithin schema.now (spec.noted_calculation schema.now output place site text)) }
 {
     let kind = calculated_type(schema, numbers, site);
     noted.push(Noted {
-        source: Source::Calculation { kind, text },
+        source: Source::Calculation { kind, text, output },
         place,
-        site: expression_site(alloc, schema, numbers, "inputValueCalc", site)?,
+        site: expression_site(alloc, schema, numbers, calculating_property(output), site)?,
     })?;
     Ok(())
 }
 
-// The same, where its value is calculated.
+// The same, where its value is calculated so.
 fn push_calculations(
     alloc: Global,
     schema: &Schema,
     numbers: &Numbers,
+    output: bool,
     place: Place,
     site: Site,
     calculation: Option<TextValue>,
@@ -83,13 +96,13 @@ fn push_calculations(
 ) -> Result<(), AllocError>
     requires site { IsSite schema.now site }
     requires numbers { AreNumbers schema.now numbers.now }
-    ensures noted { OnOk result (noted.new.items ≡ noted.old.items ++ spec.noted_if (spec.noted_calculation schema.now place site) calculation) }
-    ensures within { OnOk result (All (spec.IsNotedWithin schema.now) (spec.noted_if (spec.noted_calculation schema.now place site) calculation)) }
+    ensures noted { OnOk result (noted.new.items ≡ noted.old.items ++ spec.noted_if (spec.noted_calculation schema.now output place site) calculation) }
+    ensures within { OnOk result (All (spec.IsNotedWithin schema.now) (spec.noted_if (spec.noted_calculation schema.now output place site) calculation)) }
 {
     let Some(text) = calculation else {
         return Ok(());
     };
-    push_calculation(alloc, schema, numbers, place, site, text, noted)
+    push_calculation(alloc, schema, numbers, output, place, site, text, noted)
 }
 
 // The property whose expression is asked.
@@ -203,13 +216,14 @@ fn push_asked(
 }
 
 /// Adds the expressions that are properties of a component that begins at this place.
-#[tactic(auto, using(crate::proofs::Told::two_pushed, crate::proofs::Told::two_within))]
+#[tactic(auto, using(crate::proofs::Told::three_pushed, crate::proofs::Told::three_within))]
 pub(crate) fn push_expressions(
     alloc: Global,
     schema: &Schema,
     numbers: &Numbers,
     place: Place,
     site: Site,
+    output: Option<TextValue>,
     calculation: Option<TextValue>,
     measure: Option<MeasureForm>,
     count: Option<TextValue>,
@@ -218,10 +232,20 @@ pub(crate) fn push_expressions(
 ) -> Result<(), AllocError>
     requires site { IsSite schema.now site }
     requires numbers { AreNumbers schema.now numbers.now }
-    ensures noted { OnOk result (noted.new.items ≡ noted.old.items ++ spec.noted_expressions schema.now place site calculation measure count key) }
-    ensures within { OnOk result (All (spec.IsNotedWithin schema.now) (spec.noted_expressions schema.now place site calculation measure count key)) }
+    ensures noted { OnOk result (noted.new.items ≡ noted.old.items ++ spec.noted_expressions schema.now place site output calculation measure count key) }
+    ensures within { OnOk result (All (spec.IsNotedWithin schema.now) (spec.noted_expressions schema.now place site output calculation measure count key)) }
 {
-    push_calculations(alloc, schema, numbers, place, site, calculation, noted)?;
+    push_calculations(alloc, schema, numbers, true, place, site, output, noted)?;
+    push_calculations(
+        alloc,
+        schema,
+        numbers,
+        false,
+        place,
+        site,
+        calculation,
+        noted,
+    )?;
     push_asked(
         alloc, schema, numbers, place, site, measure, count, key, noted,
     )?;

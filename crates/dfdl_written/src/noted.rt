@@ -16,13 +16,14 @@ pub struct Noted {
 }
 
 /// What a component states: its tests of patterns, what opens instances of variables and what sets them, its tests of expressions, and the
-/// expressions by which its value is calculated, and how long its content is, how often it occurs and which branch is taken are told, if they
-/// are.
+/// expressions by which its value is calculated, for writing and where it has no representation, and how long its content is, how often it
+/// occurs and which branch is taken are told, if they are.
 #[derive(Debug, Drop)]
 pub struct Stated {
     pub tests: TestList,
     pub settings: SettingList,
     pub checks: CheckList,
+    pub output: Option<TextValue>,
     pub calculation: Option<TextValue>,
     pub measure: Option<MeasureForm>,
     pub count: Option<TextValue>,

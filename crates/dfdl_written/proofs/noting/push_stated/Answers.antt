@@ -15,7 +15,7 @@ returns-clause-noted c =
     (c.in_ok-push_parts.ensures
     ∙ ap (λ (p : Place). c.args.noted.now.items ++ noted_parts documents p own stated.tests stated.settings stated.checks) place)
     (c.in_ok-push_expressions.ensures.noted
-    ∙ ap (λ (p : Place). c.push_parts.new.noted.items ++ noted_expressions documents p own stated.calculation stated.measure stated.count stated.key) place)
+    ∙ ap (λ (p : Place). c.push_parts.new.noted.items ++ noted_expressions documents p own stated.output stated.calculation stated.measure stated.count stated.key) place)
 
 pub returns-clause-within : goal.returns-clause-within
 returns-clause-within c =

@@ -84,7 +84,8 @@ module _ (refused : Site → Bool) (documents : List SchemaDocument)
       ap (λ (count : ℕ). nat_lt 0 count || nat_lt 0 settings || false || false || false || false || false) none
       ∙ ap (λ (count : ℕ). nat_lt 0 0 || nat_lt 0 count || false || false || false || false || false) unset
 
-  none_behind : (own : Site) (b : Bool) → if_last b (length (built_settings_at Unparsing documents own)) + length (built_checks_at Unparsing refused documents own) ≡ 0
+  none_behind : (own : Site) (b : Bool)
+      → if_last b (length (built_settings_at Unparsing documents own)) + (length (built_checks_at Unparsing refused documents own) + 0) ≡ 0
   none_behind own b =
       let checks = ap (λ (cs : List CheckForm). length cs) (unchecked refused documents own) in
       let settings = none_last b (length (built_settings_at Unparsing documents own)) (ap (λ (ss : List Setter). length ss) (unset documents own)) in
@@ -94,7 +95,7 @@ module _ (refused : Site → Bool) (documents : List SchemaDocument)
   nothing_first true = refl
   nothing_first false = refl
 
-  nothing_behind : (b : Bool) → if_last b 0 + 0 ≡ 0
+  nothing_behind : (b : Bool) → if_last b 0 + (0 + 0) ≡ 0
   nothing_behind true = refl
   nothing_behind false = refl
 

@@ -1,15 +1,18 @@
 -- What rows and faults say of a schema.
-use Rattle.std.proofs.Common.{◌≡◌, ℕ, ◌<◌, List, length, Some, None, Result, Ok, Err, Bool, if◌then◌else◌, ap, sym, subst, ◌∙◌, arith}
+use Rattle.std.proofs.Common.{◌≡◌, ℕ, ◌<◌, ◌≤◌, List, length, Option, Some, None, option_map, Result, Ok, Err, Bool, if◌then◌else◌, ap, sym, subst, ◌∙◌, arith}
 use Rattle.std.proofs.lemmas.Bool.{le-ltb, lt-ltb}
 use Rattle.dfdl_report.specs.declared.cause.LimitCause.{LimitCause}
 use Rattle.dfdl_report.specs.declared.cause.LimitCause.TheVariants as limit
 use Rattle.dfdl_documents.specs.Documents.{SchemaDocument}
 use Rattle.dfdl_terms.specs.declared.row.Row.{Row}
 use Rattle.dfdl_rows.specs.Answers.{Asked, AreRowsOf, IsFaultOf as IsRowsFault, IsLimitOf}
+use Rattle.dfdl_rows.specs.Positions.{refused_row}
 use Rattle.dfdl_rows.specs.Depths.{depth_of}
 use Rattle.dfdl_rows.specs.Refusals.{first_refusal}
 use Rattle.dfdl_rows.specs.RowLists.{rows_of}
 use Rattle.dfdl_rows.specs.Sizes.{size_of}
+use Rattle.dfdl_rows.specs.declared.refusal.Refusal.{Refusal}
+use Rattle.dfdl_rows.specs.declared.refusal.RefusedRow.{RefusedRow}
 use Rattle.dfdl_rows.specs.declared.fault.RowsFault.{RowsFault}
 use Rattle.dfdl_rows.specs.declared.fault.RowsFault.TheVariants as rows
 use Rattle.dfdl_rows.specs.Answers.{asked}
@@ -28,18 +31,31 @@ use Rattle.dfdl_checks.specs.declared.purpose.Purpose.{Purpose}
 use Rattle.dfdl_compile.specs.Components.{components_of}
 use Rattle.dfdl_compile.proofs.Fitting.{length_uses}
 use Rattle.dfdl_compile.specs.Compiled as ends
-use Rattle.dfdl_compile.specs.Compiled.{CompileEnd, Laid, Told, by_refusal, by_depth, by_recursion, by_root, first_recursive, laid, told_of}
+use Rattle.dfdl_compile.specs.Compiled.{CompileEnd, Laid, Told, by_rows, by_depth, by_recursion, by_root, first_recursive, laid, told_of}
 use Rattle.dfdl_compile.specs.Faults.{IsFaultOf, IsRecursionFault}
 use Rattle.dfdl_compile.specs.FaultsShown.{fault_of}
 
--- the rows of a root
-rows_are : (told : Told) (a : Asked) (made : List Row) → AreRowsOf a made → by_depth told a ≡ Ok (laid made told)
+-- rows where elements are nested no deeper than the limit allows
+flat : (told : Told) (a : Asked) → depth_of a.schema a.root ≤ a.depth → by_depth told a ≡ by_rows told a (first_refusal a.schema a.root)
 unfolding by_depth
-rows_are told a made are =
-    ap (λ (b : Bool). if b then Err (ends.Limit limit.Depth a.depth) else by_refusal told a (first_refusal a.schema a.root)) (le-ltb a.depth (depth_of a.schema a.root) are.flat)
-    ∙ (ap (by_refusal told a) are.sound
-    ∙ (ap (λ (b : Bool). if b then Err (ends.Limit limit.Rows a.rows) else Ok (laid (rows_of a.schema a.root) told)) (le-ltb a.rows (size_of a.schema a.root) are.short)
-    ∙ ap (λ (rs : List Row). Ok (laid rs told)) (sym are.rows_are)))
+flat told a few =
+    ap (λ (b : Bool). if b then Err (ends.Limit limit.Depth a.depth) else by_rows told a (first_refusal a.schema a.root)) (le-ltb a.depth (depth_of a.schema a.root) few)
+
+-- where there are more rows than the limit allows
+past : (told : Told) (a : Asked) (refusal : Option Refusal) → a.rows < size_of a.schema a.root → by_rows told a refusal ≡ Err (ends.past_rows a.rows refusal)
+past told a refusal many =
+    ap (λ (b : Bool). if b then Err (ends.past_rows a.rows refusal)
+    else Ok (laid (rows_of a.schema a.root) (option_map (refused_row a.schema a.root) refusal) told)) (lt-ltb a.rows (size_of a.schema a.root) many)
+
+-- the rows of a root
+rows_are : (told : Told) (a : Asked) (made : List Row) (refused : Option RefusedRow) → AreRowsOf a made refused → by_depth told a ≡ Ok (laid made refused told)
+rows_are told a made refused are =
+    flat told a are.flat
+    ∙ (ap (λ (b : Bool). if b then Err (ends.past_rows a.rows (first_refusal a.schema a.root))
+    else Ok (laid (rows_of a.schema a.root) (option_map (refused_row a.schema a.root) (first_refusal a.schema a.root)) told))
+    (le-ltb a.rows (size_of a.schema a.root) are.short)
+    ∙ (ap (λ (rs : List Row). Ok (laid rs (option_map (refused_row a.schema a.root) (first_refusal a.schema a.root)) told)) (sym are.rows_are)
+    ∙ ap (λ (o : Option RefusedRow). Ok (laid made o told)) (sym are.refused_is)))
 
 -- a limit that was reached
 limit_is : (told : Told) (a : Asked) (cause : LimitCause) (quantity : ℕ) → IsLimitOf a cause quantity → by_depth told a ≡ Err (ends.Limit cause quantity)
@@ -49,35 +65,32 @@ limit_is told a limit.Window quantity is = absurd is
 limit_is told a limit.Nodes quantity is = absurd is
 limit_is told a limit.Text quantity is = absurd is
 limit_is told a limit.Depth quantity is =
-    ap (λ (b : Bool). if b then Err (ends.Limit limit.Depth a.depth) else by_refusal told a (first_refusal a.schema a.root)) (lt-ltb a.depth (depth_of a.schema a.root) is.1)
+    ap (λ (b : Bool). if b then Err (ends.Limit limit.Depth a.depth) else by_rows told a (first_refusal a.schema a.root)) (lt-ltb a.depth (depth_of a.schema a.root) is.1)
     ∙ ap (λ (n : ℕ). Err (ends.Limit limit.Depth n)) (sym is.0)
 limit_is told a limit.Schema quantity is = absurd is
 limit_is told a limit.Schemas quantity is = absurd is
 limit_is told a limit.Rows quantity is =
-    ap (λ (b : Bool). if b then Err (ends.Limit limit.Depth a.depth) else by_refusal told a (first_refusal a.schema a.root)) (le-ltb a.depth (depth_of a.schema a.root) is.1)
-    ∙ (ap (by_refusal told a) is.2
-    ∙ (ap (λ (b : Bool). if b then Err (ends.Limit limit.Rows a.rows) else Ok (laid (rows_of a.schema a.root) told)) (lt-ltb a.rows (size_of a.schema a.root) is.3)
+    flat told a is.1
+    ∙ (ap (by_rows told a) is.2
+    ∙ (past told a None is.3
     ∙ ap (λ (n : ℕ). Err (ends.Limit limit.Rows n)) (sym is.0)))
 
 -- a fault of rows
 fault_is : (told : Told) (a : Asked) (e : RowsFault) → IsRowsFault a e → IsFaultOf (by_depth told a) (fault_of e)
-unfolding by_depth
-fault_is told a (rows.Refused refusal) is =
-    ap (λ (b : Bool). if b then Err (ends.Limit limit.Depth a.depth) else by_refusal told a (first_refusal a.schema a.root)) (le-ltb a.depth (depth_of a.schema a.root) is.0)
-    ∙ ap (by_refusal told a) is.1
+fault_is told a (rows.Refused refusal) is = flat told a is.0 ∙ (ap (by_rows told a) is.1 ∙ past told a (Some refusal) is.2)
 fault_is told a (rows.Limit cause quantity) is = limit_is told a cause quantity is
 fault_is told a rows.OutOfMemory is = tt
 
 -- the same of the documents, where no component reaches itself
 pub root_laid : (purpose : Purpose) (refused : Site → Bool) (documents : List SchemaDocument) (depth most : ℕ) (root : Site) (schema : Schema) (number : ℕ) (made : List Row)
-    → schema ≡ components_of purpose refused documents
-    → number ≡ number_of documents root → first_recursive (components_of purpose refused documents).uses ≡ None → AreRowsOf (asked schema number depth most) made
-    → by_root purpose refused documents depth most (Some root) ≡ Ok (laid made (told_of purpose refused documents))
-root_laid purpose refused documents depth most root schema number made schema_is number_is none are =
+    (refused_at : Option RefusedRow) → schema ≡ components_of purpose refused documents
+    → number ≡ number_of documents root → first_recursive (components_of purpose refused documents).uses ≡ None → AreRowsOf (asked schema number depth most) made refused_at
+    → by_root purpose refused documents depth most (Some root) ≡ Ok (laid made refused_at (told_of purpose refused documents))
+root_laid purpose refused documents depth most root schema number made refused_at schema_is number_is none are =
     ap (by_recursion documents (told_of purpose refused documents) (asked (components_of purpose refused documents) (number_of documents root) depth most)) none
-    ∙ rows_are (told_of purpose refused documents) (asked (components_of purpose refused documents) (number_of documents root) depth most) made
-    (subst (λ (n : ℕ). AreRowsOf (asked (components_of purpose refused documents) n depth most) made) number_is
-    (subst (λ (s : Schema). AreRowsOf (asked s number depth most) made) schema_is are))
+    ∙ rows_are (told_of purpose refused documents) (asked (components_of purpose refused documents) (number_of documents root) depth most) made refused_at
+    (subst (λ (n : ℕ). AreRowsOf (asked (components_of purpose refused documents) n depth most) made refused_at) number_is
+    (subst (λ (s : Schema). AreRowsOf (asked s number depth most) made refused_at) schema_is are))
 
 pub root_fault : (purpose : Purpose) (refused : Site → Bool) (documents : List SchemaDocument) (depth most : ℕ) (root : Site) (schema : Schema) (number : ℕ) (e : RowsFault) → schema ≡ components_of purpose refused documents
     → number ≡ number_of documents root → first_recursive (components_of purpose refused documents).uses ≡ None → IsRowsFault (asked schema number depth most) e

@@ -1,5 +1,5 @@
 -- What rows and their statements come to.
-use Rattle.std.proofs.Common.{◌≡◌, ℕ, ◌+◌, ◌≤◌, List, [], ◌∷◌, map, Bool, Option, Some, None, Result, Ok, Err, IfOk, IfErr, ap, sym, subst, ◌∙◌, refl}
+use Rattle.std.proofs.Common.{◌≡◌, ℕ, ◌+◌, ◌≤◌, List, [], ◌∷◌, map, Bool, Option, Some, None, option_map, Result, Ok, Err, IfOk, IfErr, ap, sym, subst, ◌∙◌, refl}
 use Rattle.dfdl_documents.specs.Documents.{SchemaDocument}
 use Rattle.dfdl_components.specs.declared.site.Site.{Site}
 use Rattle.dfdl_expression_tree.specs.Trees.{Formula}
@@ -12,6 +12,8 @@ use Rattle.dfdl_statements.specs.Elements.{name_numbers}
 use Rattle.dfdl_statements.specs.Settled.{settled}
 use Rattle.dfdl_statements.specs.SettledShown.{Settles as IsSettled}
 use Rattle.dfdl_statements.specs.Texts.{ReadsTexts}
+use Rattle.dfdl_rows.specs.declared.refusal.RefusedRow.{RefusedRow}
+use Rattle.dfdl_statements.specs.declared.fault.GivenRefusal.{GivenRefusal}
 use Rattle.dfdl_statements.specs.declared.fault.Refusal.{Refusal}
 use Rattle.dfdl_statements.specs.declared.fault.StatementFault.{StatementFault}
 use Rattle.dfdl_statements.specs.declared.fault.StatementFault.TheVariants as statements
@@ -27,7 +29,7 @@ use Rattle.dfdl_compile.specs.Compiled.{CompileEnd, Laid, Told, laid, told_of}
 use Rattle.dfdl_compile.specs.Components.{delimiters_of, primitives_of}
 use Rattle.dfdl_compile.specs.Faults.{IsEndFault, IsFaultOf, IsSettledFault}
 use Rattle.dfdl_compile.specs.FaultsShown.{statement_fault}
-use Rattle.dfdl_compile.specs.Settling.{Ends, EndsWith, Sees, Settles, end_with, table_with}
+use Rattle.dfdl_compile.specs.Settling.{Ends, EndsWith, Sees, Settles, end_with, given_of, table_with}
 use Rattle.dfdl_compile.specs.Shown.{told_shown}
 use Rattle.dfdl_compile.specs.Statements.{noted_of}
 use Rattle.dfdl_compile.specs.declared.compiling.ToldLists.{ToldLists}
@@ -36,27 +38,32 @@ use Rattle.dfdl_compile.specs.declared.fault.CompileFault.TheVariants as fault
 
 module _ (documents : List SchemaDocument) where
   -- statements that are settled
-  pub settles_so : (l : Laid) (rows : List Row) (noted : List Noted) (sight : Sight) (written : List Written) (answer : Result (List Statement) Refusal)
-      → l.rows ≡ rows → l.told.noted ≡ noted → Sees documents rows sight → AreAsNoted documents noted written
-      → ((read : List ℕ → Option Formula) → ReadsTexts read → settled read sight rows written ≡ answer)
+  pub settles_so : (l : Laid) (rows : List Row) (noted : List Noted) (sight : Sight) (written : List Written)
+      (refused : Option RefusedRow) (given : Option GivenRefusal) (answer : Result (List Statement) Refusal)
+      → l.rows ≡ rows → l.refused ≡ refused → given ≡ option_map given_of refused → l.told.noted ≡ noted → Sees documents rows sight → AreAsNoted documents noted written
+      → ((read : List ℕ → Option Formula) → ReadsTexts read → settled read sight rows written given ≡ answer)
       → Settles documents l (end_with l answer)
-  settles_so l rows noted sight written answer rows_are noted_are sees are settles = (
+  settles_so l rows noted sight written refused given answer rows_are refused_is given_is noted_are sees are settles = (
     record { sight = sight; written = written },
     record {
       sees = subst (λ (rs : List Row). Sees documents rs sight) (sym rows_are) sees;
       noted = subst (λ (ns : List Noted). AreAsNoted documents ns written) (sym noted_are) are;
-      settles = λ read reads. ap (end_with l) (ap (λ (rs : List Row). settled read sight rs written) rows_are ∙ settles read reads);
+      settles = λ read reads.
+          ap (end_with l)
+          (ap (settled read sight l.rows written) (ap (option_map given_of) refused_is ∙ sym given_is)
+          ∙ (ap (λ (rs : List Row). settled read sight rs written given) rows_are ∙ settles read reads));
     },
   )
 
   -- a fault of statements
-  pub statements_fault : (Y : Type 0) (l : Laid) (rows : List Row) (noted : List Noted) (sight : Sight) (written : List Written) (e : StatementFault)
-      → l.rows ≡ rows → l.told.noted ≡ noted → Sees documents rows sight → AreAsNoted documents noted written
-      → ((read : List ℕ → Option Formula) → ReadsTexts read → IsSettled {Y = Y} (settled read sight rows written) (Err e))
+  pub statements_fault : (Y : Type 0) (l : Laid) (rows : List Row) (noted : List Noted) (sight : Sight) (written : List Written)
+      (refused : Option RefusedRow) (given : Option GivenRefusal) (e : StatementFault)
+      → l.rows ≡ rows → l.refused ≡ refused → given ≡ option_map given_of refused → l.told.noted ≡ noted → Sees documents rows sight → AreAsNoted documents noted written
+      → ((read : List ℕ → Option Formula) → ReadsTexts read → IsSettled {Y = Y} (settled read sight rows written given) (Err e))
       → IsSettledFault documents l (statement_fault e)
-  statements_fault Y l rows noted sight written (statements.Refused refusal) rows_are noted_are sees are settles =
-      settles_so l rows noted sight written (Err refusal) rows_are noted_are sees are settles
-  statements_fault Y l rows noted sight written statements.OutOfMemory rows_are noted_are sees are settles = tt
+  statements_fault Y l rows noted sight written refused given (statements.Refused refusal) rows_are refused_is given_is noted_are sees are settles =
+      settles_so l rows noted sight written refused given (Err refusal) rows_are refused_is given_is noted_are sees are settles
+  statements_fault Y l rows noted sight written refused given statements.OutOfMemory rows_are refused_is given_is noted_are sees are settles = tt
 
   -- rows whose statements come to this
   ends_so : (answer : Result Laid CompileEnd) (l : Laid) (end : Result Table CompileEnd) → answer ≡ Ok l → Settles documents l end → Ends documents answer end
@@ -104,11 +111,11 @@ told_is purpose refused documents told variables primitives delimiters noted dec
     λ i. record { primitives = primitives i; delimiters = delimiters i; noted = noted i; variables = map definition_of (declared i) }
 
 -- rows with what is told of them
-pub laid_is : (made : List Row) (one other : Told) → one ≡ other → laid made one ≡ laid made other
-laid_is made one other same = ap (laid made) same
+pub laid_is : (made : List Row) (refused : Option RefusedRow) (one other : Told) → one ≡ other → laid made refused one ≡ laid made refused other
+laid_is made refused one other same = ap (laid made refused) same
 
 -- the table of rows with what is told of them and their statements
-pub finished : (documents : List SchemaDocument) (made : List Row) (told : Told) (statements : List Statement) (tables : Named) (t : Table)
+pub finished : (documents : List SchemaDocument) (made : List Row) (refused : Option RefusedRow) (told : Told) (statements : List Statement) (tables : Named) (t : Table)
     → t ≡ table_of made tables
     → tables ≡ record {
       primitives = told.primitives;
@@ -117,6 +124,6 @@ pub finished : (documents : List SchemaDocument) (made : List Row) (told : Told)
       names = name_numbers made;
       variables = told.variables;
     }
-    → Settles documents (laid made told) (Ok (table_with (laid made told) statements)) → Settles documents (laid made told) (Ok t)
-finished documents made told statements tables t t_is tables_is settles =
-    subst (λ (u : Table). Settles documents (laid made told) (Ok u)) (sym (t_is ∙ ap (table_of made) tables_is)) settles
+    → Settles documents (laid made refused told) (Ok (table_with (laid made refused told) statements)) → Settles documents (laid made refused told) (Ok t)
+finished documents made refused told statements tables t t_is tables_is settles =
+    subst (λ (u : Table). Settles documents (laid made refused told) (Ok u)) (sym (t_is ∙ ap (table_of made) tables_is)) settles

@@ -13,7 +13,7 @@ use Rattle.dfdl_chains.specs.Facts.{facts_at}
 use Rattle.dfdl_chains.specs.Kinds.{kind_at}
 use Rattle.dfdl_chains.specs.Parts.{is_component}
 use Rattle.dfdl_breaches.specs.Hidden.{content_hidden, hidden_name, hiding_at, hiding_for, hiding_named, name_told}
-use Rattle.dfdl_breaches.specs.Judging.{branch_keys_at, key_at, breach_at, built_checks_at, built_settings_at, built_tests_at, calculation_at, count_at, form_of_prefix, framing_at, hidden_at, initiates_at, is_parsed_at, judgement_at, markup_at, measure_at, no_judgement, occurrences_at, others_at, primitive_at, size_at}
+use Rattle.dfdl_breaches.specs.Judging.{branch_keys_at, key_at, breach_at, built_checks_at, built_settings_at, built_tests_at, calculation_at, count_at, form_of_prefix, framing_at, hidden_at, initiates_at, is_parsed_at, judgement_at, markup_at, measure_at, no_judgement, occurrences_at, others_at, output_at, primitive_at, simple_at, size_at}
 use Rattle.dfdl_breaches.specs.declared.judgement.Judgement.{Judgement}
 use Rattle.dfdl_breaches.specs.Roots.{chain_at}
 use Rattle.dfdl_breaches.specs.declared.hiding.Hiding.TheVariants.{NoGroup}
@@ -24,6 +24,7 @@ judgement_if purpose refused documents own b =
     if b then record {
       breach = breach_at purpose refused documents own;
       primitive = primitive_at purpose refused documents own;
+      simple = simple_at purpose refused documents own;
       framing = framing_at purpose refused documents own;
       markup = markup_at purpose refused documents own;
       size = size_at purpose refused documents own;
@@ -34,6 +35,7 @@ judgement_if purpose refused documents own b =
       initiates = initiates_at purpose refused documents own;
       tests = built_tests_at purpose refused documents own;
       checks = built_checks_at purpose refused documents own;
+      output = output_at purpose refused documents own;
       settings = built_settings_at purpose documents own;
       calculation = calculation_at purpose refused documents own;
       measure = measure_at purpose refused documents own;

@@ -1,5 +1,5 @@
 -- The statements of the documents as they are written.
-use Rattle.std.proofs.Common.{◌≡◌, ℕ, ◌+◌, ◌<◌, List, [], ◌∷◌, ◌++◌, length, length-append, map, take, get_or, slice_get, All, Option, Some, None, option_map, ap, sym, subst, ◌∙◌, refl, arith}
+use Rattle.std.proofs.Common.{◌≡◌, ℕ, ◌+◌, ◌<◌, List, [], ◌∷◌, ◌++◌, append_assoc, length, length-append, map, take, get_or, slice_get, All, Option, Some, None, option_map, ap, sym, subst, ◌∙◌, refl, arith}
 use Rattle.std.specs.List.{flat_map}
 use Rattle.std.proofs.lemmas.List.{length-map, take-map}
 use Rattle.std.proofs.lemmas.List.Concat.{get_or-flat_map}
@@ -47,7 +47,8 @@ module _ (purpose : Purpose) (refused : Site → Bool) (documents : List SchemaD
 
   -- how many those of an element are
   length_parts : (own : Site) (told : Judgement)
-      → length (noted_parts documents (place_of documents own) own told.tests told.settings told.checks) ≡ count_others told
+      → length (noted_parts documents (place_of documents own) own told.tests told.settings told.checks)
+      ≡ length told.tests + (length told.settings + length told.checks)
   length_parts own told =
       let tests = length-map told.tests (noted_test (place_of documents own) own) in
       let settings = length-map told.settings (noted_setting documents (place_of documents own)) in
@@ -66,27 +67,34 @@ module _ (purpose : Purpose) (refused : Site → Bool) (documents : List SchemaD
   count_measured (Some form) = refl
 
   length_expressions : (own : Site) (told : Judgement)
-      → length (noted_expressions documents (place_of documents own) own told.calculation told.measure told.count told.key)
-      ≡ count_if told.calculation + (count_if told.measure + (count_if told.count + count_if told.key))
+      → length (noted_expressions documents (place_of documents own) own told.output told.calculation told.measure told.count told.key)
+      ≡ count_if told.output + (count_if told.calculation + (count_if told.measure + (count_if told.count + count_if told.key)))
   length_expressions own told =
-      let calculations : List Noted = noted_if (noted_calculation documents (place_of documents own) own) told.calculation in
+      let outputs : List Noted = noted_if (noted_calculation documents true (place_of documents own) own) told.output in
+      let calculations : List Noted = noted_if (noted_calculation documents false (place_of documents own) own) told.calculation in
       let lengths : List Noted = noted_if (noted_question documents (place_of documents own) own asked.Length) (option_map length_text told.measure) in
       let counts : List Noted = noted_if (noted_question documents (place_of documents own) own asked.Count) told.count in
-      let calculated = length_if (noted_calculation documents (place_of documents own) own) told.calculation in
+      let written = length_if (noted_calculation documents true (place_of documents own) own) told.output in
+      let calculated = length_if (noted_calculation documents false (place_of documents own) own) told.calculation in
       let measured = length_if (noted_question documents (place_of documents own) own asked.Length) (option_map length_text told.measure)
       ∙ count_measured told.measure in
       let counted = length_if (noted_question documents (place_of documents own) own asked.Count) told.count in
       let keys : List Noted = noted_if (noted_question documents (place_of documents own) own asked.Key) told.key in
       let keyed = length_if (noted_question documents (place_of documents own) own asked.Key) told.key in
       let behind = length-append counts keys ∙ (λ i. counted i + keyed i) in
-      length-append calculations (lengths ++ (counts ++ keys))
-      ∙ ((λ i. calculated i + length-append lengths (counts ++ keys) i) ∙ (λ i. count_if told.calculation + (measured i + behind i)))
+      let all = length-append calculations (lengths ++ (counts ++ keys))
+      ∙ ((λ i. calculated i + length-append lengths (counts ++ keys) i) ∙ (λ i. count_if told.calculation + (measured i + behind i))) in
+      length-append outputs (calculations ++ (lengths ++ (counts ++ keys))) ∙ (λ i. written i + all i)
 
   length_by : (own : Site) (told : Judgement) → length (noted_by documents own told) ≡ count_by told
   length_by own told =
-      length-append (noted_parts documents (place_of documents own) own told.tests told.settings told.checks)
-      (noted_expressions documents (place_of documents own) own told.calculation told.measure told.count told.key)
-      ∙ (λ i. length_parts own told i + length_expressions own told i)
+      omega (
+        arith,
+        length-append (noted_parts documents (place_of documents own) own told.tests told.settings told.checks)
+            (noted_expressions documents (place_of documents own) own told.output told.calculation told.measure told.count told.key),
+        length_parts own told,
+        length_expressions own told,
+      )
 
   length_each : (sites : List Site) → length (flat_map (noted_at purpose refused documents) sites) ≡ counted (map (judgement_at purpose refused documents) sites)
   length_each [] = refl
@@ -102,13 +110,22 @@ module _ (purpose : Purpose) (refused : Site → Bool) (documents : List SchemaD
 
   -- the calculation of an element's value stands at its number
   last_by : (own : Site) (told : Judgement) (text : List ℕ) (d : Noted) → told.calculation ≡ Some text
-      → get_or (noted_by documents own told) (count_others told) d ≡ noted_calculation documents (place_of documents own) own text
+      → get_or (noted_by documents own told) (count_others told) d ≡ noted_calculation documents false (place_of documents own) own text
   last_by own told text d is =
       let parts : List Noted = noted_parts documents (place_of documents own) own told.tests told.settings told.checks in
+      let outputs : List Noted = noted_if (noted_calculation documents true (place_of documents own) own) told.output in
+      let calculated : Noted = noted_calculation documents false (place_of documents own) own text in
       let questions : List Noted = noted_questions documents (place_of documents own) own told.measure told.count told.key in
-      ap (λ (o : Option (List ℕ)). get_or (parts ++ (noted_if (noted_calculation documents (place_of documents own) own) o ++ questions)) (count_others told) d) is
-      ∙ (ap (λ (n : ℕ). get_or (parts ++ noted_calculation documents (place_of documents own) own text ∷ questions) n d) (sym (length_parts own told))
-      ∙ get_or-append_seam parts (noted_calculation documents (place_of documents own) own text) questions d)
+      let many : count_others told ≡ length (parts ++ outputs) = omega (
+        arith,
+        length-append parts outputs,
+        length_parts own told,
+        length_if (noted_calculation documents true (place_of documents own) own) told.output,
+      ) in
+      ap (λ (o : Option (List ℕ)).
+      get_or (parts ++ (outputs ++ (noted_if (noted_calculation documents false (place_of documents own) own) o ++ questions))) (count_others told) d) is
+      ∙ (ap (λ (xs : List Noted). get_or xs (count_others told) d) (sym (append_assoc parts outputs (calculated ∷ questions)))
+      ∙ (ap (λ (n : ℕ). get_or ((parts ++ outputs) ++ calculated ∷ questions) n d) many ∙ get_or-append_seam (parts ++ outputs) calculated questions d))
 
   before_is : (own : Site) → length (flat_map (noted_at purpose refused documents) (take (number_of documents own) (all_sites documents)))
       ≡ first_statement purpose refused documents own
@@ -118,11 +135,11 @@ module _ (purpose : Purpose) (refused : Site → Bool) (documents : List SchemaD
 
   pub noted_there : (own : Site) (text : List ℕ) → IsSite documents own → (judgement_at purpose refused documents own).calculation ≡ Some text
       → slice_get (noted_of purpose refused documents) (calculation_number (first_statement purpose refused documents own) (judgement_at purpose refused documents own))
-      ≡ Some (noted_calculation documents (place_of documents own) own text)
+      ≡ Some (noted_calculation documents false (place_of documents own) own text)
   unfolding noted_of
   noted_there own text within is =
       let told : Judgement = judgement_at purpose refused documents own in
-      let d : Noted = noted_calculation documents (place_of documents own) own text in
+      let d : Noted = noted_calculation documents false (place_of documents own) own text in
       let low : number_of documents own < length (all_sites documents) = omega (arith, number_below documents own within, length_all documents) in
       let here : get_or (all_sites documents) (number_of documents own) own ≡ own = at-number documents own own within in
       let one : count_if told.calculation ≡ 1 = ap count_if is in

@@ -2,6 +2,10 @@
 use Rattle.std.proofs.Common.{◌≡◌, ℕ, ◌+◌, Bool, true, false, List, ◌++◌, length, length-append, map, All, Option, None, Some, unwrap_or, ap, sym, subst, ◌∙◌, refl, arith, if◌then◌else◌}
 use Rattle.std.proofs.lemmas.List.{length-map}
 use Rattle.std.proofs.lemmas.List.Elements.{All-append}
+use Rattle.dfdl_forms.specs.Types.{form_of}
+use Rattle.dfdl_forms.specs.declared.simple.Form.{Form}
+use Rattle.dfdl_forms.specs.declared.simple.Form.TheVariants as forms
+use Rattle.dfdl_forms.specs.declared.simple.Simple.{Simple}
 use Rattle.dfdl_documents.specs.Documents.{SchemaDocument}
 use Rattle.dfdl_components.specs.declared.site.Site.{Site}
 use Rattle.dfdl_components.specs.Sites.{IsSite, role_of}
@@ -15,20 +19,25 @@ use Rattle.dfdl_checks.specs.declared.purpose.Purpose.TheVariants.{Unparsing}
 use Rattle.dfdl_chains.specs.Everywhere.{all_sites, for_each}
 use Rattle.dfdl_chains.specs.Parts.{is_component}
 use Rattle.dfdl_chains.proofs.Numbering.{length_all}
-use Rattle.dfdl_breaches.specs.Judging.{primitive_at as judged, form_of_prefix, judgement_at, others_at}
+use Rattle.dfdl_breaches.specs.Judging.{primitive_at as judged, form_of_prefix, judgement_at, others_at, simple_at}
 use Rattle.dfdl_breaches.specs.declared.judgement.Judgement.{Judgement}
 use Rattle.dfdl_terms.specs.declared.delimiters.Delimiters.{Delimiters}
 use Rattle.dfdl_terms.specs.Rows.{IsPrimitive}
 use Rattle.dfdl_terms.specs.declared.row.Primitive.{Primitive}
 use Rattle.dfdl_compile.specs.Components.{delimiters_of, empty_primitive_at, nil_primitive_at, prefix_primitive_at, primitive_at, primitives_of, tried_primitive_at}
 use Rattle.dfdl_compile.specs.Delimiters.{initiator_list_by, separator_list_by, terminator_list_by}
-use Rattle.dfdl_compile.specs.Primitives.{HasWrittenText, a_byte, empty_primitive_by, nil_primitive_by, prefix_primitive_by, primitive_by, primitive_if, tried_primitive_by}
+use Rattle.dfdl_compile.specs.Primitives.{HasWrittenText, a_byte, empty_primitive_by, nil_primitive_by, one_of_form, stand_in, prefix_primitive_by, primitive_by, primitive_if, tried_primitive_by}
 use Rattle.dfdl_compile.proofs.Fitting.{all_within, each, twice}
 use Rattle.dfdl_compile.proofs.Hiding.{judgement_if}
 
 -- what holds of a byte, of each primitive that is judged, of that of each prefix, and of those of each nil and each empty
 -- representation, of required and of tried occurrences, holds of those of an element
-module _ (P : Primitive → Type 0) (byte : P a_byte) (purpose : Purpose) (refused : Site → Bool) (documents : List SchemaDocument) where
+module _ (P : Primitive → Type 0) (byte : P a_byte) (purpose : Purpose) (refused : Site → Bool) (documents : List SchemaDocument)
+    (stands : (own : Site) → P (stand_in (simple_at purpose refused documents own))) where
+  by_own : (own : Site) (o : Option Primitive) → ((p : Primitive) → o ≡ Some p → P p) → P (unwrap_or o (stand_in (simple_at purpose refused documents own)))
+  by_own own None holds = stands own
+  by_own own (Some p) holds = holds p refl
+
   by_some : (o : Option Primitive) → ((p : Primitive) → o ≡ Some p → P p) → P (unwrap_or o a_byte)
   by_some None holds = byte
   by_some (Some p) holds = holds p refl
@@ -39,7 +48,7 @@ module _ (P : Primitive → Type 0) (byte : P a_byte) (purpose : Purpose) (refus
 
   by_component : (own : Site) (b : Bool) → ((p : Primitive) → judged purpose refused documents own ≡ Some p → P p) → P (primitive_by (judgement_if purpose refused documents own b))
   unfolding judgement_if
-  by_component own true holds = by_some (judged purpose refused documents own) holds
+  by_component own true holds = by_own own (judged purpose refused documents own) holds
   by_component own false holds = byte
 
   by_prefixed : (own : Site) (b : Bool) → ((f : PrefixForm) → form_of_prefix purpose refused documents own ≡ Some f → P f.primitive)
@@ -160,6 +169,21 @@ lists_are purpose refused documents judgements lists told are = are ∙ (λ i. a
 abbrev IsBoundedIf : Primitive → Type 0
 IsBoundedIf p = HasWrittenText p → IsPrimitive p
 
+byte_bounded : IsPrimitive a_byte
+byte_bounded = record { some = omega arith; few = omega arith; short = omega arith; places = omega arith }
+
+form_bounded : (f : Form) → IsPrimitive (one_of_form f)
+form_bounded (forms.Signed bits) = byte_bounded
+form_bounded (forms.Unsigned bits) = byte_bounded
+form_bounded forms.Fixed = byte_bounded
+form_bounded forms.Characters = record { size = omega arith; content = tt }
+form_bounded forms.Truths = (omega arith, omega arith)
+form_bounded forms.Octets = omega arith
+
+stand_in_bounded : (o : Option Simple) → IsPrimitive (stand_in o)
+stand_in_bounded None = byte_bounded
+stand_in_bounded (Some simple) = form_bounded (form_of simple)
+
 -- each keeps the bounds of its type
 pub bounded : (purpose : Purpose) (refused : Site → Bool) (documents : List SchemaDocument)
     → ((purpose : Purpose) (refused : Site → Bool) (documents : List SchemaDocument) (own : Site) (p : Primitive) → judged purpose refused documents own ≡ Some p → IsPrimitive p)
@@ -173,8 +197,9 @@ pub bounded : (purpose : Purpose) (refused : Site → Bool) (documents : List Sc
     → (tables : List Primitive) → tables ≡ primitives_of purpose refused documents → All HasWrittenText tables → All IsPrimitive tables
 bounded purpose refused documents law prefixes nils empties tried tables are written =
     let each_if : All IsBoundedIf tables = holds_of IsBoundedIf
-    (λ text. record { some = omega arith; few = omega arith; short = omega arith; places = omega arith })
-    purpose refused documents (λ own p is text. law purpose refused documents own p is) (λ own f is text. prefixes purpose refused documents own f is)
+    (λ text. byte_bounded)
+    purpose refused documents (λ own text. stand_in_bounded (simple_at purpose refused documents own))
+    (λ own p is text. law purpose refused documents own p is) (λ own f is text. prefixes purpose refused documents own f is)
     (λ own p is text. nils purpose refused documents own p is) (empties purpose refused documents) (tried purpose refused documents) tables are in
     λ k d less. each_if k d less (written k d less)
 
@@ -185,7 +210,7 @@ pub wholes : (purpose : Purpose) (refused : Site → Bool) (documents : List Sch
     → ((refused : Site → Bool) (documents : List SchemaDocument) (own : Site) → others_at Unparsing refused documents own ≡ no_representations)
     → (tables : List Primitive) → tables ≡ primitives_of purpose refused documents → All IsWhole tables
 wholes purpose refused documents unparsing law none normal tables are =
-    holds_of IsWhole (record { bits = refl; kind = refl; bits_by = refl; point = refl }) Unparsing refused documents (law refused documents)
+    holds_of IsWhole (record { bits = refl; kind = refl; bits_by = refl; point = refl }) Unparsing refused documents (λ own. record { bits = refl; kind = refl; bits_by = refl; point = refl }) (law refused documents)
     (λ own f is. absurd (no_form (none refused documents own) is))
     (λ own p is. absurd (no_form (ap (λ (o : OtherRepresentations). o.nil) (normal refused documents own)) is))
     (λ own p is. absurd (no_form (ap (λ (o : OtherRepresentations). o.required.empty) (normal refused documents own)) is))

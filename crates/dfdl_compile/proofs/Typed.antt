@@ -1,5 +1,5 @@
 -- Each simple element is read by a primitive of its type, or its value is calculated by a statement of its type.
-use Rattle.std.proofs.Common.{◌≡◌, ℕ, ◌+◌, ◌<◌, Bool, List, ◌++◌, length, length-append, map, slice_get, get_or, Option, None, Some, option_map, ap, sym, subst, ◌∙◌, arith}
+use Rattle.std.proofs.Common.{◌≡◌, ℕ, ◌+◌, ◌<◌, Bool, false, List, ◌++◌, length, length-append, map, slice_get, get_or, Option, None, Some, option_map, ap, sym, subst, ◌∙◌, arith}
 use Rattle.std.proofs.lemmas.List.{length-map, get_or_append_left}
 use Rattle.std.proofs.lemmas.Option.{slice_get-map, slice_get-get_or, slice_get_within}
 use Rattle.dfdl_forms.specs.declared.simple.Simple.{Simple}
@@ -187,7 +187,7 @@ module _ (purpose : Purpose) (refused : Site → Bool) (documents : List SchemaD
       let at : IsCalculatedAt own simple statement = calculated_component own name simple statement framing same in
       let noted = noted_there purpose refused documents own at.text (all_within documents number (site 0 0) less) at.told in
       subst (λ (n : ℕ). IsNotedCalculation simple (slice_get (noted_of purpose refused documents) n)) at.numbered
-      (subst (IsNotedCalculation simple) (sym noted) (at.text, ap (λ (k : Simple). source.Calculation k at.text) at.typed))
+      (subst (IsNotedCalculation simple) (sym noted) (at.text, ap (λ (k : Simple). source.Calculation k at.text false) at.typed))
 
   -- what the body of a simple element reads or calculates has the element's type
   reads_typed : (t : Table) (simple : Simple) → AllZip IsAsWritten (noted_of purpose refused documents) t.statements → (id : ℕ)

@@ -1,5 +1,5 @@
 -- What the statements are that calculate values.
-use Rattle.std.proofs.Common.{◌≡◌, ℕ, List, [], ◌∷◌, slice_get, Option, None, Some, subst}
+use Rattle.std.proofs.Common.{◌≡◌, ℕ, List, [], ◌∷◌, slice_get, Option, None, Some, false, subst}
 use Rattle.std.specs.List.{AllZip}
 use Rattle.std.specs.Option.{IsSomeAnd, MatchOption}
 use Rattle.std.proofs.lemmas.Slice.Zip.{AllZip-left}
@@ -19,10 +19,10 @@ use Rattle.dfdl_compile.specs.Shown.{IsAsWritten}
 -- what is noted is a calculation of a value of this type
 abbrev pub IsNotedCalculation : Simple → Option Noted → Type 0
 IsNotedCalculation simple None = ⊥
-IsNotedCalculation simple (Some noted) = (text : List ℕ) × (noted.source ≡ source.Calculation simple text)
+IsNotedCalculation simple (Some noted) = (text : List ℕ) × (noted.source ≡ source.Calculation simple text false)
 
 -- a statement of it calculates one of the type
-by_statement : (simple : Simple) (noted : Noted) (statement : Statement) (text : List ℕ) → noted.source ≡ source.Calculation simple text
+by_statement : (simple : Simple) (noted : Noted) (statement : Statement) (text : List ℕ) → noted.source ≡ source.Calculation simple text false
     → IsAsWritten noted statement → CalculatesType simple (Some statement)
 by_statement simple noted (any.Calculation calculation) text is made = subst (λ (x : Source). IsOfSource x (any.Calculation calculation)) is made
 by_statement simple noted (any.Pattern test) text is made = subst (λ (x : Source). IsOfSource x (any.Pattern test)) is made

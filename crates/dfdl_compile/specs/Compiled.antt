@@ -1,6 +1,6 @@
--- THE meaning of a schema: its rows with the statements that its documents write, or why it has none. What the statements come to is told
--- behind all of it ('specs/Settling.antt').
-use Rattle.std.specs.Prelude.{ℕ, Bool, List, nat_lt, length, Option, None, Some, Result, Ok, Err, if◌then◌else◌}
+-- THE meaning of a schema: its rows with the first refusal of a component and the statements that its documents write, or why it has none.
+-- What the refusal and the statements come to together is told behind it ('specs/Settling.antt').
+use Rattle.std.specs.Prelude.{ℕ, Bool, List, nat_lt, length, Option, None, Some, option_map, Result, Ok, Err, if◌then◌else◌}
 use Rattle.dfdl_report.specs.declared.cause.LimitCause.{LimitCause}
 use Rattle.dfdl_report.specs.declared.cause.LimitCause.TheVariants.{Depth, Rows}
 use Rattle.dfdl_report.specs.declared.cause.SchemaCause.{SchemaCause}
@@ -20,10 +20,12 @@ use Rattle.dfdl_breaches.specs.Elements.{place_of}
 use Rattle.dfdl_breaches.specs.Roots.{root_of}
 use Rattle.dfdl_rows.specs.Answers.{Asked, asked}
 use Rattle.dfdl_rows.specs.Depths.{depth_of}
+use Rattle.dfdl_rows.specs.Positions.{refused_row}
 use Rattle.dfdl_rows.specs.Refusals.{first_refusal}
 use Rattle.dfdl_rows.specs.RowLists.{rows_of}
 use Rattle.dfdl_rows.specs.Sizes.{size_of}
 use Rattle.dfdl_rows.specs.declared.refusal.Refusal.{Refusal}
+use Rattle.dfdl_rows.specs.declared.refusal.RefusedRow.{RefusedRow}
 use Rattle.dfdl_checks.specs.declared.purpose.Purpose.{Purpose}
 use Rattle.dfdl_written.specs.Variables.{definitions_of}
 use Rattle.dfdl_written.specs.declared.noted.Noted.{Noted}
@@ -51,30 +53,31 @@ told_of purpose refused documents = record {
   variables = definitions_of documents;
 }
 
--- rows, and what the documents say of all of them
+-- rows, the first refusal of a component that is reached at its row, if there is one, and what the documents say of all rows
 pub record Laid : Type 0 where
   pub rows : List Row
+  pub refused : Option RefusedRow
   pub told : Told
 
-abbrev pub laid : List Row → Told → Laid
-laid rows told = record { rows = rows; told = told }
+abbrev pub laid : List Row → Option RefusedRow → Told → Laid
+laid rows refused told = record { rows = rows; refused = refused; told = told }
 
--- the rows of a root, where there are no more than the limit allows
-abbrev pub by_rows : Told → Asked → Result Laid CompileEnd
-by_rows told a =
-    if nat_lt a.rows (size_of a.schema a.root) then Err (Limit Rows a.rows)
-    else Ok (laid (rows_of a.schema a.root) told)
+-- why a root has no rows that has more than the limit allows: the first refusal, if there is one
+abbrev pub past_rows : ℕ → Option Refusal → CompileEnd
+past_rows most None = Limit Rows most
+past_rows most (Some refusal) = Refused refusal.cause refusal.place
 
--- the same, where no component that is reached is refused
-abbrev pub by_refusal : Told → Asked → Option Refusal → Result Laid CompileEnd
-by_refusal told a None = by_rows told a
-by_refusal told a (Some refusal) = Err (Refused refusal.cause refusal.place)
+-- the rows of a root with the first refusal, where there are no more rows than the limit allows
+abbrev pub by_rows : Told → Asked → Option Refusal → Result Laid CompileEnd
+by_rows told a refusal =
+    if nat_lt a.rows (size_of a.schema a.root) then Err (past_rows a.rows refusal)
+    else Ok (laid (rows_of a.schema a.root) (option_map (refused_row a.schema a.root) refusal) told)
 
 -- the same, where elements are nested no deeper than the limit allows
 unfoldable pub by_depth : Told → Asked → Result Laid CompileEnd
 by_depth told a =
     if nat_lt a.depth (depth_of a.schema a.root) then Err (Limit Depth a.depth)
-    else by_refusal told a (first_refusal a.schema a.root)
+    else by_rows told a (first_refusal a.schema a.root)
 
 -- the component, if it reaches itself through its parts
 abbrev pub if_recursive : List (List ℕ) → ℕ → Option ℕ

@@ -44,7 +44,7 @@ separated_by number separator = record { list = number; position = separator.pos
 
 -- a delimiter whose literals have this number
 abbrev pub delimiter_by : ℕ → Delimiting → Delimiter
-delimiter_by number delimiter = record { list = number; in_nil = delimiter.in_nil; in_empty = delimiter.in_empty }
+delimiter_by number delimiter = record { list = number; in_nil = delimiter.in_nil; in_empty = delimiter.in_empty; resolves = delimiter.resolves }
 
 -- those of a component of which this is told, where its first one has this number, and it sets variables before all else or behind all
 abbrev pub stated_around : Bool → ℕ → Judgement → StatedAround

@@ -3,6 +3,10 @@
 use Rattle.std.specs.Prelude.{◌≡◌, ℕ, Bool, true, false, List, slice_get, Option, None, Some, unwrap_or}
 use Rattle.dfdl_forms.specs.declared.order.BitOrder.TheVariants.{MostFirst}
 use Rattle.dfdl_forms.specs.declared.order.ByteOrder.TheVariants.{Big}
+use Rattle.dfdl_forms.specs.Types.{form_of}
+use Rattle.dfdl_forms.specs.declared.encoding.Encoding.TheVariants.{Utf8}
+use Rattle.dfdl_forms.specs.declared.simple.Form.{Form}
+use Rattle.dfdl_forms.specs.declared.simple.Form.TheVariants as forms
 use Rattle.dfdl_forms.specs.declared.simple.Simple.{Simple}
 use Rattle.dfdl_forms.specs.declared.simple.Simple.TheVariants.{UnsignedByte}
 use Rattle.dfdl_terms.specs.Leaves.{ReadsBy}
@@ -16,19 +20,52 @@ use Rattle.dfdl_terms.specs.declared.statement.Statement.{Statement as AnyStatem
 use Rattle.dfdl_terms.specs.declared.statement.Statement.TheVariants as any
 use Rattle.dfdl_terms.specs.declared.statement.Statements.{Statements}
 use Rattle.dfdl_terms.specs.declared.text.DefaultForm.{DefaultForm}
+use Rattle.dfdl_forms.specs.declared.text.Justify.TheVariants.{Left}
+use Rattle.dfdl_terms.specs.declared.text.TextContent.TheVariants.{Plain}
 use Rattle.dfdl_terms.specs.declared.text.TextSize.{TextSize}
 use Rattle.dfdl_terms.specs.declared.text.TextSize.TheVariants.{Bits, Characters, Delimited}
 use Rattle.dfdl_checks.specs.Numbers.{type_of}
 use Rattle.dfdl_checks.specs.declared.prefixes.PrefixForm.{PrefixForm}
 use Rattle.dfdl_breaches.specs.declared.judgement.Judgement.{Judgement}
 
--- the primitive that stands for an element without one of its own, which is no simple element or is refused
+-- the primitive that stands for a number
 abbrev pub a_byte : Primitive
 a_byte = Integer (record { bits = 8; bytes_by = Big; bits_by = MostFirst; point = 0; kind = UnsignedByte })
 
+-- those that stand for a boolean, for bytes and for a text
+abbrev pub a_truth : Primitive
+a_truth = Truth (record { bits = 8; bytes_by = Big; bits_by = MostFirst; truth = None; falsity = 0 })
+
+abbrev pub no_octets : Primitive
+no_octets = Octets (record { bits = 0; bits_by = MostFirst })
+
+abbrev pub no_text : Primitive
+no_text = Text (record {
+  encoding = Utf8;
+  replaces = false;
+  size = Bits 0;
+  pad = record { justify = Left; pad = None; trim = None; truncate = false; keeps_zero = false };
+  content = Plain;
+})
+
+-- the primitive that stands for one of values of this form
+abbrev pub one_of_form : Form → Primitive
+one_of_form (forms.Signed bits) = a_byte
+one_of_form (forms.Unsigned bits) = a_byte
+one_of_form forms.Fixed = a_byte
+one_of_form forms.Characters = no_text
+one_of_form forms.Truths = a_truth
+one_of_form forms.Octets = no_octets
+
+-- The primitive that stands for an element without one of its own, which is no simple element or is refused: an expression that names a refused
+-- element sees values of its form.
+abbrev pub stand_in : Option Simple → Primitive
+stand_in None = a_byte
+stand_in (Some simple) = one_of_form (form_of simple)
+
 -- the primitive of an element of which this is told
 abbrev pub primitive_by : Judgement → Primitive
-primitive_by judgement = unwrap_or judgement.primitive a_byte
+primitive_by judgement = unwrap_or judgement.primitive (stand_in judgement.simple)
 
 -- markup ends a content of this size
 abbrev pub is_scanned_size : TextSize → Bool
@@ -78,10 +115,10 @@ abbrev pub IsOfType : Simple → Option Primitive → Type 0
 IsOfType simple None = ⊥
 IsOfType simple (Some primitive) = type_of primitive ≡ simple
 
--- there is a statement, and it calculates values of the type
+-- there is a statement, and it calculates values of the type, which aren't those of writing alone
 abbrev pub CalculatesType : Simple → Option AnyStatement → Type 0
 CalculatesType simple None = ⊥
-CalculatesType simple (Some (any.Calculation calculation)) = calculation.kind ≡ simple
+CalculatesType simple (Some (any.Calculation calculation)) = (calculation.kind ≡ simple) × (calculation.output ≡ false)
 CalculatesType simple (Some (any.Pattern test)) = ⊥
 CalculatesType simple (Some (any.Expression test)) = ⊥
 CalculatesType simple (Some (any.Setting setting)) = ⊥

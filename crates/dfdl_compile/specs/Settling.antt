@@ -1,6 +1,6 @@
--- What the statements of a schema's rows come to. They are settled where the rows are there, so what is wrong in an expression is told behind
--- all other refusals, and behind the limit on rows ('DFDL Expression Language').
-use Rattle.std.specs.Prelude.{◌≡◌, ℕ, Bool, List, map, Option, None, Some, Result, Ok, Err}
+-- What the statements of a schema's rows come to. They are settled where the rows are there, and with them the first refusal of a component, so
+-- what is wrong in an expression is told in the order of the components, and behind the limit on rows ('DFDL Expression Language').
+use Rattle.std.specs.Prelude.{◌≡◌, ℕ, Bool, List, map, Option, None, Some, option_map, Result, Ok, Err}
 use Rattle.std.specs.BTreeMap.{get_by_text}
 use Rattle.dfdl_documents.specs.Documents.{SchemaDocument}
 use Rattle.dfdl_components.specs.declared.site.Site.{Site}
@@ -13,6 +13,8 @@ use Rattle.dfdl_breaches.specs.Builds.{never}
 use Rattle.dfdl_statements.specs.Elements.{declaration_shown, declarations, name_numbers, named}
 use Rattle.dfdl_statements.specs.Settled.{settled}
 use Rattle.dfdl_statements.specs.Texts.{ReadsTexts}
+use Rattle.dfdl_rows.specs.declared.refusal.RefusedRow.{RefusedRow}
+use Rattle.dfdl_statements.specs.declared.fault.GivenRefusal.{GivenRefusal}
 use Rattle.dfdl_statements.specs.declared.fault.Refusal.{Refusal}
 use Rattle.dfdl_statements.specs.declared.sight.Sight.{Sight}
 use Rattle.dfdl_statements.specs.declared.written.Written.{Written}
@@ -43,17 +45,21 @@ abbrev pub end_with : Laid → Result (List Statement) Refusal → Result Table 
 end_with laid (Ok statements) = Ok (table_with laid statements)
 end_with laid (Err refusal) = Err (Refused refusal.cause refusal.place)
 
+-- the refusal of a component, as it is given where statements are settled
+abbrev pub given_of : RefusedRow → GivenRefusal
+given_of refused = record { row = refused.row; refusal = record { cause = refused.refusal.cause; place = refused.refusal.place } }
+
 -- the maps that keep what expressions may name: the elements of rows and the variables, and for each statement the prefixes in scope
 pub record Maps : Type 0 where
   pub sight : Sight
   pub written : List Written
 
--- The statements of rows are settled so by maps that keep just what the rows and the documents have. What tells the trees of texts is free, as
+-- The statements of rows are settled so, with the refusal of a component, by maps that keep just what the rows and the documents have. What tells the trees of texts is free, as
 -- long as each text has its own.
 pub record SettlesTo (maps : Maps) (documents : List SchemaDocument) (laid : Laid) (end : Result Table CompileEnd) : Type 0 where
   pub sees : Sees documents laid.rows maps.sight
   pub noted : AreAsNoted documents laid.told.noted maps.written
-  pub settles : (read : List ℕ → Option Formula) → ReadsTexts read → end_with laid (settled read maps.sight laid.rows maps.written) ≡ end
+  pub settles : (read : List ℕ → Option Formula) → ReadsTexts read → end_with laid (settled read maps.sight laid.rows maps.written (option_map given_of laid.refused)) ≡ end
 
 -- the same, where there are maps
 abbrev pub SettlesIf : Option Maps → List SchemaDocument → Laid → Result Table CompileEnd → Type 0

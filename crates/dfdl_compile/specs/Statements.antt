@@ -1,8 +1,8 @@
 -- The statements of the components of a schema: one list of those of all elements of its documents, in which those of an element stand
 -- behind those of all elements before it: its tests of patterns, what opens instances of variables, what sets variables, its tests of
--- expressions, the calculation of its value, and the questions how long its content is, how often it occurs and which branch is taken ('DFDL
--- Schema Component Model', on asserts, discriminators and variables; 'Calculated Values'; 'Lengths'; 'Arrays and Optional Elements';
--- 'Choices').
+-- expressions, the calculations of its value, for writing and of one that has no representation, and the questions how long its content is, how
+-- often it occurs and which branch is taken ('DFDL Schema Component Model', on asserts, discriminators and variables; 'Calculated Values';
+-- 'Lengths'; 'Arrays and Optional Elements'; 'Choices').
 use Rattle.std.specs.Prelude.{ℕ, suc, ◌+◌, ◌-◌, List, [], ◌∷◌, if◌then◌else◌, Bool, true, false, Option, None, Some, length, take}
 use Rattle.std.specs.List.{flat_map, sum_by}
 use Rattle.dfdl_documents.specs.Documents.{SchemaDocument}
@@ -24,9 +24,14 @@ abbrev pub count_if : {X : Type 0} → Option X → ℕ
 count_if None = 0
 count_if (Some given) = 1
 
--- how many statements before the expressions that are properties an element has of which this is told
+-- how many statements behind its content, besides what sets variables, an element has of which this is told: the tests of expressions, and the
+-- calculation of its value for writing, if there is one
+abbrev pub count_behind : Judgement → ℕ
+count_behind judgement = length judgement.checks + count_if judgement.output
+
+-- how many statements before those that its rows ask for by their numbers
 abbrev pub count_others : Judgement → ℕ
-count_others judgement = length judgement.tests + (length judgement.settings + length judgement.checks)
+count_others judgement = length judgement.tests + (length judgement.settings + count_behind judgement)
 
 -- how many statements it has
 abbrev pub count_by : Judgement → ℕ
@@ -93,7 +98,7 @@ settings_by is_first first judgement = record {
 abbrev pub behind_by : Bool → ℕ → Judgement → Statements
 behind_by is_first first judgement = record {
   first = first + (length judgement.tests + if_first is_first (length judgement.settings));
-  count = if_last is_first (length judgement.settings) + length judgement.checks;
+  count = if_last is_first (length judgement.settings) + count_behind judgement;
 }
 
 -- the number of the calculation of its value

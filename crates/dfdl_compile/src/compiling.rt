@@ -47,7 +47,9 @@ use dfdl_edge::Patterns;
 use dfdl_order::laws::nothing_in_an_order_reaches_itself;
 use dfdl_order::{OrderFault, Uses, order_of};
 use dfdl_report::{Place, SchemaCause};
-use dfdl_rows::{Component, Components, Refusal, RowsFault, rows_of, terms_from};
+use dfdl_rows::{
+    Component, Components, LaidRows, Refusal, RefusedRow, RowsFault, rows_of, terms_from,
+};
 use dfdl_terms::{Delimiters, Primitive, Row, Tables, Terms};
 use dfdl_variables::{Declared, variables_of};
 use dfdl_written::{Noted, definitions, note};
@@ -168,7 +170,7 @@ fn ordered(alloc: Global, schema: &Schema, gathered: Gathered) -> Result<Compone
     }
 }
 
-// The rows of a schema with this root, of whose elements this is told, or why it has none.
+// The rows of a schema with this root, of whose elements this is told, and the first refusal of a component, or why there are no rows.
 fn lay(
     alloc: Global,
     schema: &Schema,
@@ -178,7 +180,7 @@ fn lay(
     root: Site,
     depth: u32,
     rows: u32,
-) -> Result<Vec<Row>, CompileFault>
+) -> Result<LaidRows, CompileFault>
     requires told { (refused : declared_site.Site → Bool)
         × (judgements.now ≡ for_each schema.now (judgement_at purpose refused schema.now)) }
     requires numbers { AreNumbers schema.now numbers.now }
@@ -186,26 +188,26 @@ fn lay(
     requires global { is_global_element (role_of schema.now root) ≡ true }
     ensures rows { (refused : declared_site.Site → Bool)
         → judgements.now ≡ for_each schema.now (judgement_at purpose refused schema.now)
-        → IfOk result (λ made. by_root purpose refused schema.now depth rows (Some root) ≡ Ok (laid made.items (told_of purpose refused schema.now))) }
+        → IfOk result (λ made. by_root purpose refused schema.now depth rows (Some root) ≡ Ok (laid made.rows.items made.refused (told_of purpose refused schema.now))) }
     ensures fault { (refused : declared_site.Site → Bool)
         → judgements.now ≡ for_each schema.now (judgement_at purpose refused schema.now)
         → IfErr result (IsFaultOf (by_root purpose refused schema.now depth rows (Some root))) }
-    ensures some { IfOk result (λ made. 0 < vec_len made) }
-    ensures few { IfOk result (λ made. vec_len made ≤ rows) }
-    ensures nests { IfOk result (λ made. Nests made.items) }
+    ensures some { IfOk result (λ made. 0 < vec_len made.rows) }
+    ensures few { IfOk result (λ made. vec_len made.rows ≤ rows) }
+    ensures nests { IfOk result (λ made. Nests made.rows.items) }
     ensures named { (refused : declared_site.Site → Bool)
         → judgements.now ≡ for_each schema.now (judgement_at purpose refused schema.now)
         → (named : Named) → named.primitives ≡ primitives_of purpose refused schema.now → named.delimiters ≡ delimiters_of purpose refused schema.now
         → length named.statements ≡ length (noted_of purpose refused schema.now)
-        → IfOk result (λ made. All (NamesWithin named) made.items) }
-    ensures element { IfOk result (λ made. EndsWithElement made.items) }
+        → IfOk result (λ made. All (NamesWithin named) made.rows.items) }
+    ensures element { IfOk result (λ made. EndsWithElement made.rows.items) }
     ensures leaves { (refused : declared_site.Site → Bool)
         → judgements.now ≡ for_each schema.now (judgement_at purpose refused schema.now)
-        → IfOk result (λ made. HaveLeaves (components_of purpose refused schema.now).components made.items) }
+        → IfOk result (λ made. HaveLeaves (components_of purpose refused schema.now).components made.rows.items) }
     ensures bare { purpose ≡ Unparsing → (refused : declared_site.Site → Bool)
         → judgements.now ≡ for_each schema.now (judgement_at purpose refused schema.now)
-        → IfOk result (λ made. HaveBareLeaves (components_of purpose refused schema.now).components made.items) }
-    ensures plain { purpose ≡ Unparsing → IfOk result (λ made. HasPlainRows made.items) }
+        → IfOk result (λ made. HaveBareLeaves (components_of purpose refused schema.now).components made.rows.items) }
+    ensures plain { purpose ≡ Unparsing → IfOk result (λ made. HasPlainRows made.rows.items) }
 {
     sound_elements_have_bounded_primitives();
     statements_are_for_parsing();
@@ -264,11 +266,12 @@ fn tell(
     })
 }
 
-// The terms of rows over what the documents say of them and the variables of these, or why a statement is refused.
+// The terms of rows over what the documents say of them and the variables of these, or why a component or a statement is refused.
 fn finish(
     alloc: Global,
     schema: &Schema,
     rows: Vec<Row>,
+    refused: Option<RefusedRow>,
     told: ToldLists,
     variables: Vec<Declared>,
 ) -> Result<Terms, CompileFault>
@@ -283,8 +286,8 @@ fn finish(
     ensures rows { IfOk result (λ t. t.rows ≡ rows.items) }
     ensures primitives { IfOk result (λ t. t.primitives ≡ told.primitives.items) }
     ensures written { IfOk result (λ t. AllZip IsAsWritten told.noted.items t.statements) }
-    ensures settled { IfOk result (λ t. Settles schema.now (laid rows.items (told_shown told variables.items)) (Ok t)) }
-    ensures fault { IfErr result (IsSettledFault schema.now (laid rows.items (told_shown told variables.items))) }
+    ensures settled { IfOk result (λ t. Settles schema.now (laid rows.items refused (told_shown told variables.items)) (Ok t)) }
+    ensures fault { IfErr result (IsSettledFault schema.now (laid rows.items refused (told_shown told variables.items))) }
 {
     let ToldLists {
         primitives,
@@ -294,7 +297,14 @@ fn finish(
     let SettledRows {
         statements,
         numbers,
-    } = settle_rows(alloc, schema, rows.as_slice(), noted, variables.as_slice())?;
+    } = settle_rows(
+        alloc,
+        schema,
+        rows.as_slice(),
+        refused,
+        noted,
+        variables.as_slice(),
+    )?;
     let variables = definitions(alloc, variables)?;
     let tables = Tables::new(primitives, delimiters, statements, numbers, variables);
     Ok(terms_from(alloc, rows, tables))
@@ -331,7 +341,10 @@ fn compile_root(
     sound_elements_have_bounded_primitives();
     told_statements_are_within();
     let numbers = Numbers::of(alloc, schema)?;
-    let made = lay(
+    let LaidRows {
+        rows: made,
+        refused,
+    } = lay(
         alloc,
         schema,
         &numbers,
@@ -343,7 +356,7 @@ fn compile_root(
     )?;
     let variables = variables_of(alloc, schema, &numbers)?;
     let told = tell(alloc, schema, &numbers, variables.as_slice(), judgements)?;
-    finish(alloc, schema, made, told, variables)
+    finish(alloc, schema, made, refused, told, variables)
 }
 
 // The terms of a schema for a purpose. The patterns of all elements are built, reached or not.

@@ -120,6 +120,7 @@ fn delimiter_by(number: u32, delimiter: &Option<Delimiting>) -> Option<Delimiter
             list: number,
             in_nil: delimiter.in_nil,
             in_empty: delimiter.in_empty,
+            resolves: delimiter.resolves,
         }),
         None => None,
     }

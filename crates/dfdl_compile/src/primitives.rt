@@ -8,13 +8,15 @@ ghost use Rattle.dfdl_written.specs.Noting.{stated_by};
 
 use dfdl_breaches::Judgement;
 use dfdl_checks::{Delimiting, PrefixForm, Separating};
-use dfdl_forms::{BitOrder, ByteOrder, Encoding, IntForm, Literals, Simple};
+use dfdl_forms::{
+    BitOrder, BitTruthForm, ByteOrder, Encoding, Form, IntForm, Justify, Literals, PadForm, Simple,
+};
 use dfdl_terms::row::default_is_written;
-use dfdl_terms::{Delimiters, Primitive, TextContent, TextSize};
+use dfdl_terms::{Delimiters, OctetForm, Primitive, TextContent, TextForm, TextSize};
 use dfdl_written::Stated;
 use std::alloc::{AllocError, Global};
 
-// The primitive that stands for an element without one of its own.
+// The primitive that stands for a number.
 fn a_byte() -> Primitive
     ensures { result ≡ spec.a_byte }
 {
@@ -25,6 +27,70 @@ fn a_byte() -> Primitive
         point: 0,
         kind: Simple::UnsignedByte,
     })
+}
+
+// The one that stands for a boolean.
+fn a_truth() -> Primitive
+    ensures { result ≡ spec.a_truth }
+{
+    Primitive::Truth(BitTruthForm {
+        bits: 8,
+        bytes_by: ByteOrder::Big,
+        bits_by: BitOrder::MostFirst,
+        truth: None,
+        falsity: 0,
+    })
+}
+
+// The one that stands for bytes.
+fn no_octets() -> Primitive
+    ensures { result ≡ spec.no_octets }
+{
+    Primitive::Octets(OctetForm {
+        bits: 0,
+        bits_by: BitOrder::MostFirst,
+    })
+}
+
+// The one that stands for a text.
+fn no_text() -> Primitive
+    ensures { result ≡ spec.no_text }
+{
+    Primitive::Text(TextForm {
+        encoding: Encoding::Utf8,
+        replaces: false,
+        size: TextSize::Bits(0),
+        pad: PadForm {
+            justify: Justify::Left,
+            pad: None,
+            trim: None,
+            truncate: false,
+            keeps_zero: false,
+        },
+        content: TextContent::Plain,
+    })
+}
+
+// The one that stands for an element without one of its own, whose values are of this type.
+fn stand_in(simple: Option<Simple>) -> Primitive
+    ensures { result ≡ spec.stand_in simple }
+{
+    match simple {
+        Some(simple) => one_of_form(simple.form()),
+        None => a_byte(),
+    }
+}
+
+// The one that stands for values of this form.
+fn one_of_form(form: Form) -> Primitive
+    ensures { result ≡ spec.one_of_form form }
+{
+    match form {
+        Form::Signed { .. } | Form::Unsigned { .. } | Form::Fixed => a_byte(),
+        Form::Characters => no_text(),
+        Form::Truths => a_truth(),
+        Form::Octets => no_octets(),
+    }
 }
 
 // The type of the values that a text's characters are read as.
@@ -64,7 +130,7 @@ pub(crate) fn type_by(judgement: &Judgement) -> Simple
 {
     match &judgement.primitive {
         Some(primitive) => type_of(primitive),
-        None => Simple::UnsignedByte,
+        None => type_of(&stand_in(judgement.simple)),
     }
 }
 
@@ -95,11 +161,21 @@ pub(crate) fn is_scanned_by(judgement: &Judgement) -> bool
 {
     match &judgement.primitive {
         Some(primitive) => is_scanned(primitive),
-        None => false,
+        None => is_scanned(&stand_in(judgement.simple)),
     }
 }
 
-// The primitive of an element or of one of its representations, or the one that stands for none.
+// The primitive of an element, or the one that stands for none.
+fn primitive_or(primitive: Option<Primitive>, simple: Option<Simple>) -> Primitive
+    ensures { result ≡ unwrap_or primitive (spec.stand_in simple) }
+{
+    match primitive {
+        Some(primitive) => primitive,
+        None => stand_in(simple),
+    }
+}
+
+// The primitive of one of its other representations, or the one that stands for none.
 fn primitive_or_byte(primitive: Option<Primitive>) -> Primitive
     ensures { result ≡ unwrap_or primitive spec.a_byte }
 {
@@ -209,19 +285,21 @@ fn lists_of(alloc: Global, judgements: Vec<Judgement>) -> Result<Lists, AllocErr
     for judgement in judgements {
         let Judgement {
             primitive,
+            simple,
             markup,
             prefix,
             others,
             tests,
             settings,
             checks,
+            output,
             calculation,
             measure,
             count,
             key,
             ..
         } = judgement;
-        lists.own.push(primitive_or_byte(primitive))?;
+        lists.own.push(primitive_or(primitive, simple))?;
         lists.prefixes.push(primitive_if(prefix))?;
         lists.nils.push(primitive_or_byte(others.nil))?;
         lists
@@ -239,6 +317,7 @@ fn lists_of(alloc: Global, judgements: Vec<Judgement>) -> Result<Lists, AllocErr
             tests,
             settings,
             checks,
+            output,
             calculation,
             measure,
             count,

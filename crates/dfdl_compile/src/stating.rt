@@ -30,13 +30,13 @@ fn sum(first: u32, second: u32) -> Result<u32, AllocError>
     }
 }
 
-// How many tests of patterns there are, how many set variables, how many of these open instances, and how many tests of expressions there are.
+// How many tests of patterns there are, how many set variables, how many of these open instances, and how many others there are behind a content.
 #[derive(Clone, Copy)]
 struct Counts {
     tests: u32,
     settings: u32,
     openings: u32,
-    checks: u32,
+    behind: u32,
 }
 
 // How many of those that set variables open instances.
@@ -52,22 +52,40 @@ fn opening_count(setters: &[Setter]) -> usize
     count
 }
 
+// How many statements there are of an expression.
+fn count_if(text: &Option<TextValue>) -> u32
+    ensures { result ≡ spec.count_if text.now }
+{
+    match text {
+        Some(_) => 1,
+        None => 0,
+    }
+}
+
+// How many statements behind its content, besides what sets variables, an element has of which this is told.
+fn count_behind(judgement: &Judgement) -> Result<u32, AllocError>
+    ensures { IfOk result (λ count. count ≡ spec.count_behind judgement.now) }
+{
+    let checks = number(judgement.checks.as_slice().len())?;
+    sum(checks, count_if(&judgement.output))
+}
+
 // Those of an element of which this is told.
 fn counted(judgement: &Judgement) -> Result<Counts, AllocError>
     ensures tests { IfOk result (λ counts. counts.tests ≡ length judgement.now.tests) }
     ensures settings { IfOk result (λ counts. counts.settings ≡ length judgement.now.settings) }
     ensures openings { IfOk result (λ counts. counts.openings ≡ spec.opening_count judgement.now.settings) }
-    ensures checks { IfOk result (λ counts. counts.checks ≡ length judgement.now.checks) }
+    ensures behind { IfOk result (λ counts. counts.behind ≡ spec.count_behind judgement.now) }
 {
     let tests = number(judgement.tests.as_slice().len())?;
     let settings = number(judgement.settings.as_slice().len())?;
     let openings = number(opening_count(judgement.settings.as_slice()))?;
-    let checks = number(judgement.checks.as_slice().len())?;
+    let behind = count_behind(judgement)?;
     Ok(Counts {
         tests,
         settings,
         openings,
-        checks,
+        behind,
     })
 }
 
@@ -140,7 +158,7 @@ fn behind_by(is_first: bool, first: u32, judgement: &Judgement) -> Result<Statem
     let counts = counted(judgement)?;
     let before = sum(counts.tests, if_first(is_first, counts.settings))?;
     let first = sum(first, before)?;
-    let count = sum(if_last(is_first, counts.settings), counts.checks)?;
+    let count = sum(if_last(is_first, counts.settings), counts.behind)?;
     Ok(Statements { first, count })
 }
 
@@ -173,23 +191,13 @@ pub(crate) fn stated_around(
     })
 }
 
-// How many statements before the expressions that are properties an element has of which this is told.
+// How many statements an element has of which this is told before those that its rows ask for by their numbers.
 fn count_others(judgement: &Judgement) -> Result<u32, AllocError>
     ensures { IfOk result (λ count. count ≡ spec.count_others judgement.now) }
 {
     let counts = counted(judgement)?;
-    let others = sum(counts.settings, counts.checks)?;
+    let others = sum(counts.settings, counts.behind)?;
     sum(counts.tests, others)
-}
-
-// How many statements there are of an expression.
-fn count_if(text: &Option<TextValue>) -> u32
-    ensures { result ≡ spec.count_if text.now }
-{
-    match text {
-        Some(_) => 1,
-        None => 0,
-    }
 }
 
 // How many there are of a length by an expression.

@@ -8,6 +8,7 @@ mod Placed
 mod Counts
 mod Tables
 mod RowsOf
+mod Located
 mod Slotted
 mod Grouped
 mod Walks

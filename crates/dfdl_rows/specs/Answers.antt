@@ -1,6 +1,6 @@
--- What the rows of a root are, or why it has none. Of several reasons the depth counts first, then the first refusal,
--- then the number of rows.
-use Rattle.std.specs.Prelude.{◌≡◌, ℕ, ◌<◌, ◌≤◌, ◌-◌, List, length, None, Some, slice_get}
+-- What the rows of a root are, with the first refusal of a component that is reached, or why it has none. Of several reasons the depth counts
+-- first, then the first refusal, then the number of rows.
+use Rattle.std.specs.Prelude.{◌≡◌, ℕ, ◌<◌, ◌≤◌, ◌-◌, List, length, Option, None, Some, option_map, slice_get}
 use Rattle.dfdl_report.specs.declared.cause.LimitCause.{LimitCause}
 use Rattle.dfdl_report.specs.declared.cause.LimitCause.TheVariants.{Input, Window, Nodes, Text, Depth, Schema as SchemaSize, Schemas, Rows}
 use Rattle.dfdl_terms.specs.declared.row.Row.{Row}
@@ -8,10 +8,13 @@ use Rattle.dfdl_terms.specs.declared.row.Row.TheVariants.{Elem}
 use Rattle.dfdl_rows.specs.Components.{Schema, no_trials}
 use Rattle.dfdl_rows.specs.Refusals.{first_refusal}
 use Rattle.dfdl_rows.specs.Depths.{depth_of}
+use Rattle.dfdl_rows.specs.Positions.{refused_row}
 use Rattle.dfdl_rows.specs.Sizes.{size_of}
 use Rattle.dfdl_rows.specs.RowLists.{rows_of}
 use Rattle.dfdl_rows.specs.declared.component.Component.{Component}
 use Rattle.dfdl_rows.specs.declared.component.Component.TheVariants.{Sequence, Choice, ComplexElement, SimpleElement, CalculatedElement, Hidden}
+use Rattle.dfdl_rows.specs.declared.refusal.Refusal.{Refusal}
+use Rattle.dfdl_rows.specs.declared.refusal.RefusedRow.{RefusedRow}
 use Rattle.dfdl_rows.specs.declared.fault.RowsFault.{RowsFault}
 use Rattle.dfdl_rows.specs.declared.fault.RowsFault.TheVariants.{Refused, Limit, OutOfMemory}
 
@@ -49,18 +52,23 @@ IsLimitOf a SchemaSize quantity = ⊥
 IsLimitOf a Schemas quantity = ⊥
 IsLimitOf a Rows quantity = (quantity ≡ a.rows) × IsFlat a × IsSound a × (a.rows < size_of a.schema a.root)
 
+-- why there are no rows where there are more than so many: the first refusal, if there is one
+abbrev pub past_rows : ℕ → Option Refusal → RowsFault
+past_rows most None = Limit Rows most
+past_rows most (Some refusal) = Refused refusal
+
 -- why there are no rows
 abbrev pub IsFaultOf : Asked → RowsFault → Type 0
-IsFaultOf a (Refused refusal) = IsFlat a × (first_refusal a.schema a.root ≡ Some refusal)
+IsFaultOf a (Refused refusal) = IsFlat a × (first_refusal a.schema a.root ≡ Some refusal) × (a.rows < size_of a.schema a.root)
 IsFaultOf a (Limit cause quantity) = IsLimitOf a cause quantity
 IsFaultOf a OutOfMemory = Unit {0}
 
--- the rows of the root
-pub record AreRowsOf (a : Asked) (rows : List Row) : Type 0 where
+-- the rows of the root, with the first refusal at its row
+pub record AreRowsOf (a : Asked) (rows : List Row) (refused : Option RefusedRow) : Type 0 where
   pub flat : IsFlat a
-  pub sound : IsSound a
   pub short : IsShort a
   pub rows_are : rows ≡ rows_of a.schema a.root
+  pub refused_is : refused ≡ option_map (refused_row a.schema a.root) (first_refusal a.schema a.root)
 
 -- where a component is an element, the last of the rows is its own
 abbrev pub EndsWith : Component → List Row → Type 0

@@ -9,6 +9,7 @@ pub mod Refusals
 pub mod Looking
 pub mod Depths
 pub mod Sizes
+pub mod Positions
 pub mod RowLists
 pub mod Leaves
 pub mod Answers

@@ -9,7 +9,7 @@ use thiserror::Error;
 /// Why a component has no rows.
 #[derive(Clone, Copy, Debug, PartialEq, Eq, Error)]
 pub enum RowsFault {
-    /// A component that is reached is refused. It is the first in schema order.
+    /// A component that is reached is refused, the first in schema order, and there are more rows than the limit.
     #[error("a component is refused")]
     Refused(Refusal),
     /// Elements are nested deeper than the limit, or there are more rows.

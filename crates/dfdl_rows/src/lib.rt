@@ -1,9 +1,9 @@
 //! The rows of schema components, once for each use: 'DFDL Schema Component Model' and 'DFDL Data Syntax Grammar'.
 //!
 //! Components are numbers, and each has parts that stand behind it in schema order. `rows_of` gives the rows of one of
-//! them as the root: the rows of its parts first, and its own last. Contracts cite `specs/Answers.antt`, which says
-//! when there are none: elements are nested too deep, a component that is reached is refused, or there are too many
-//! rows. What components share is computed once.
+//! them as the root: the rows of its parts first, and its own last, and with them the first refusal of a component that is
+//! reached. Contracts cite `specs/Answers.antt`, which says when there are none: elements are nested too deep, or there are
+//! too many rows. What components share is computed once.
 #![tactic(auto)]
 
 mod apart;
@@ -16,6 +16,7 @@ mod framing;
 mod idle;
 mod last;
 mod looking;
+mod positions;
 mod refusal;
 mod refusals;
 mod rows;
@@ -31,5 +32,5 @@ pub use component::{
 };
 pub use components::{Components, are_of_one, have_delimiters, have_primitives, have_statements};
 pub use fault::RowsFault;
-pub use refusal::Refusal;
-pub use rows::{rows_of, terms_from};
+pub use refusal::{Refusal, RefusedRow};
+pub use rows::{LaidRows, rows_of, terms_from};

@@ -44,22 +44,22 @@ standing-stops input cause lists place s true = seek-stops input cause lists pla
 standing-stops input cause lists place s false = tt
 
 -- an initiator that is found may resolve a point
-found-stops : (end : End) (o : Outcome) → StopsByData o.end → StopsByData (found_initiator end o).end
-found-stops Done o own = own
-found-stops (Failed cause bit) o own = own
-found-stops (Stopped cause quantity) o own = own
+found-stops : (resolves : Bool) (end : End) (o : Outcome) → StopsByData o.end → StopsByData (found_initiator resolves end o).end
+found-stops resolves Done o own = own
+found-stops resolves (Failed cause bit) o own = own
+found-stops resolves (Stopped cause quantity) o own = own
 
-beginning-stops : (input : Input) (lists : List Opened) (s : State) (stands : Bool)
-    → StopsByData (let whole : Outcome = (if stands then (let o : Outcome = seek input InitiatorMissing lists 0 s in found_initiator o.end o)
+beginning-stops : (resolves : Bool) (input : Input) (lists : List Opened) (s : State) (stands : Bool)
+    → StopsByData (let whole : Outcome = (if stands then (let o : Outcome = seek input InitiatorMissing lists 0 s in found_initiator resolves o.end o)
     else ended Done s) in whole.end)
-beginning-stops input lists s true =
-    let o : Outcome = seek input InitiatorMissing lists 0 s in found-stops o.end o (seek-stops input InitiatorMissing lists 0 s)
-beginning-stops input lists s false = tt
+beginning-stops resolves input lists s true =
+    let o : Outcome = seek input InitiatorMissing lists 0 s in found-stops resolves o.end o (seek-stops input InitiatorMissing lists 0 s)
+beginning-stops resolves input lists s false = tt
 
 pub initiator-stops : (input : Input) (delimiters : List Delimiters) (delimiter : Delimiter) (s : State)
     → StopsByData (initiator input delimiters delimiter s).end
 initiator-stops input delimiters delimiter s =
-    beginning-stops input (lists_of delimiters (delimiter.list ∷ [])) s (stands_in s.instead delimiter)
+    beginning-stops delimiter.resolves input (lists_of delimiters (delimiter.list ∷ [])) s (stands_in s.instead delimiter)
 
 pub terminator-stops : (input : Input) (delimiters : List Delimiters) (delimiter : Delimiter) (separators : Option ℕ) (s : State)
     → StopsByData (terminator input delimiters delimiter separators s).end

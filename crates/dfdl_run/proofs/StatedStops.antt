@@ -10,6 +10,7 @@ use Rattle.dfdl_region.specs.declared.node.Content.{Content}
 use Rattle.dfdl_region.specs.declared.node.Content.TheVariants as content
 use Rattle.dfdl_surroundings.specs.Taking.{taken, truth_taken}
 use Rattle.dfdl_terms.specs.Rows.{Table}
+use Rattle.dfdl_terms.specs.declared.statement.Calculation.{Calculation as CalculationOf}
 use Rattle.dfdl_terms.specs.declared.statement.Statement.{Statement}
 use Rattle.dfdl_terms.specs.declared.statement.Statement.TheVariants.{Pattern, Expression, Setting, Calculation, Question, Opening}
 use Rattle.dfdl_terms.specs.declared.statement.Statements.{Statements}
@@ -22,7 +23,7 @@ use Rattle.dfdl_grammar.specs.Outcomes.{Outcome, ended, follow}
 use Rattle.dfdl_grammar.specs.Leaves.{Find, Fails, Finds, FindsOctets, FindsText, default_find, land, taken_as}
 use Rattle.dfdl_grammar.specs.declared.span.Span.{Span}
 use Rattle.dfdl_grammar.specs.Occurrences.{as_occurrence, occurring, untried}
-use Rattle.dfdl_grammar.specs.Statements.{calculated, concluded, concluded_at, evaluated, is_written, judged, set_by, set_to, start_of, stated, stated_from, statement, statement_of, with_reads}
+use Rattle.dfdl_grammar.specs.Statements.{calculated, computed, concluded, concluded_at, evaluated, is_written, judged, set_by, set_to, start_of, stated, stated_from, statement, statement_of, with_reads}
 use Rattle.dfdl_run.proofs.SoughtStops.{test-stops, tested-stops}
 use Rattle.dfdl_run.proofs.Stopping.{StopsByData}
 
@@ -87,6 +88,17 @@ calculated-stops : (limits : Limits) (r : Result Value ℕ) (s : State) → Stop
 calculated-stops limits (Ok v) s = written-stops limits v s (is_written v)
 calculated-stops limits (Err cause) s = tt
 
+output-stops : (limits : Limits) (r : Result Value ℕ) (s t : State) (output : Bool)
+    → StopsByData (let whole : Outcome = (if output then ended Done s else calculated limits r t) in whole.end)
+output-stops limits r s t true = tt
+output-stops limits r s t false = calculated-stops limits r t
+
+computed-stops : (limits : Limits) (table : Table) (start : Start) (calculation : CalculationOf) (s : State)
+    → StopsByData (computed limits table start calculation s).end
+computed-stops limits table start calculation s =
+    output-stops limits (taken calculation.kind (evaluated table start calculation.expression s)) s (with_reads table start calculation.expression s)
+    calculation.output
+
 stated-stops : (limits : Limits) (table : Table) (start : Start) (number : ℕ) (found : Option Statement) (s : State)
     → StopsByData (stated limits table start number found s).end
 stated-stops limits table start number None s = tt
@@ -95,8 +107,7 @@ stated-stops limits table start number (Some (Expression test)) s =
     judged-stops test.discriminates number (truth_taken (evaluated table start test.expression s)) (with_reads table start test.expression s)
 stated-stops limits table start number (Some (Setting setting)) s =
     set-to-stops setting.variable (taken setting.kind (evaluated table start setting.expression s)) (with_reads table start setting.expression s)
-stated-stops limits table start number (Some (Calculation calculation)) s =
-    calculated-stops limits (taken calculation.kind (evaluated table start calculation.expression s)) (with_reads table start calculation.expression s)
+stated-stops limits table start number (Some (Calculation calculation)) s = computed-stops limits table start calculation s
 stated-stops limits table start number (Some (Question question)) s = tt
 stated-stops limits table start number (Some (Opening opening)) s = tt
 

@@ -59,9 +59,9 @@ pub opening_cause : (target : Target) (due : Nodes) → cause_in due ≡ cause_i
 opening_cause target (Ok nodes) = refl
 opening_cause target (Err cause) = refl
 
-pub calculation_cause : (kind : Simple) (due : Nodes) → cause_in due ≡ cause_in (as_calculation kind due)
-calculation_cause kind (Ok nodes) = refl
-calculation_cause kind (Err cause) = refl
+pub calculation_cause : (kind : Simple) (output : Bool) (due : Nodes) → cause_in due ≡ cause_in (as_calculation kind output due)
+calculation_cause kind output (Ok nodes) = refl
+calculation_cause kind output (Err cause) = refl
 
 pub question_cause : (due : Nodes) → cause_in due ≡ cause_in (as_question due)
 question_cause (Ok nodes) = refl
@@ -91,10 +91,10 @@ module _ (read : List ℕ → Option Formula) (s : Statics) (answer : Result Sta
       → Gives (opening_made read s variable text) answer → Gives (made read s source) answer
   opened_made text variable is given = subst (λ o. Gives (made read s o) answer) (sym is) given
 
-  pub calculation_made : (text seen : List ℕ) (kind : Simple) (v : ValueType) (wanted : Types) (found : Result (List Node) Fault)
-      → source ≡ written.Calculation kind text → seen ≡ text → wanted ≡ only v → v ≡ type_of kind → Gives (expression read s wanted seen) found
-      → ((due : Nodes) → Gives due found → Gives (as_calculation kind due) answer) → Gives (made read s source) answer
-  calculation_made text seen kind v wanted found is same types of given all =
+  pub calculation_made : (text seen : List ℕ) (kind : Simple) (output : Bool) (v : ValueType) (wanted : Types) (found : Result (List Node) Fault)
+      → source ≡ written.Calculation kind text output → seen ≡ text → wanted ≡ only v → v ≡ type_of kind → Gives (expression read s wanted seen) found
+      → ((due : Nodes) → Gives due found → Gives (as_calculation kind output due) answer) → Gives (made read s source) answer
+  calculation_made text seen kind output v wanted found is same types of given all =
       subst (λ o. Gives (made read s o) answer) (sym is)
       (all (expression read s (only (type_of kind)) text)
       (of_kind read s wanted text found v kind types of (subst (λ t. Gives (expression read s wanted t) found) same given)))
@@ -165,15 +165,15 @@ module _ {E : Type 0} (read : List ℕ → Option Formula) (s : Statics) (r : Re
       → IfOk r (λ cause. cause ≡ cause_in (opening_with read s target text)) → IfOk r (λ cause. cause ≡ cause_in (opening_made read s variable text))
   opened_target_told text variable target is given = subst (λ o. IfOk r (λ cause. cause ≡ cause_in (opening_made read s o text))) (sym is) given
 
-  pub calculation_told : (source : Source) (text seen : List ℕ) (kind : Simple) (v : ValueType) (wanted : Types) (found : Result (List Node) Fault)
-      → source ≡ written.Calculation kind text → seen ≡ text → wanted ≡ only v → v ≡ type_of kind → Gives (expression read s wanted seen) found
+  pub calculation_told : (source : Source) (text seen : List ℕ) (kind : Simple) (output : Bool) (v : ValueType) (wanted : Types)
+      (found : Result (List Node) Fault) → source ≡ written.Calculation kind text output → seen ≡ text → wanted ≡ only v → v ≡ type_of kind → Gives (expression read s wanted seen) found
       → ((due : Nodes) → Gives due found → IfOk r (λ cause. cause ≡ cause_in due)) → IfOk r (λ cause. cause ≡ cause_in (made read s source))
-  calculation_told source text seen kind v wanted found is same types of given all =
+  calculation_told source text seen kind output v wanted found is same types of given all =
       let due = expression read s (only (type_of kind)) text in
       subst (λ o. IfOk r (λ cause. cause ≡ cause_in (made read s o))) (sym is)
-      (caused r (cause_in due) (cause_in (as_calculation kind due))
+      (caused r (cause_in due) (cause_in (as_calculation kind output due))
       (all due (of_kind read s wanted text found v kind types of (subst (λ t. Gives (expression read s wanted t) found) same given)))
-      (calculation_cause kind due))
+      (calculation_cause kind output due))
 
   pub question_told : (source : Source) (text seen : List ℕ) (asked : Asked) (wanted : Types) (found : Result (List Node) Fault)
       → source ≡ written.Question asked text → seen ≡ text → wanted ≡ types_asked asked → Gives (expression read s wanted seen) found

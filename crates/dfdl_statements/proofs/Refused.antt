@@ -7,14 +7,15 @@ use Rattle.dfdl_expression_types.specs.declared.statics.Place.{Place}
 use Rattle.dfdl_terms.specs.declared.row.Row.{Row}
 use Rattle.dfdl_terms.specs.declared.slots.Slot.{Slot}
 use Rattle.dfdl_terms.specs.declared.statement.Statement.{Statement}
+use Rattle.dfdl_statements.specs.declared.fault.GivenRefusal.{GivenRefusal}
 use Rattle.dfdl_statements.specs.declared.fault.Refusal.{Refusal}
 use Rattle.dfdl_statements.specs.declared.sight.Sight.{Sight}
 use Rattle.dfdl_statements.specs.declared.standing.Standing.{Standing}
 use Rattle.dfdl_statements.specs.declared.written.Written.{Written}
-use Rattle.dfdl_statements.specs.Children.{children_in, slots_in}
+use Rattle.dfdl_statements.specs.Children.{children_in, counted_in, slots_in}
 use Rattle.dfdl_statements.specs.Elements.{arounds, or_else}
 use Rattle.dfdl_statements.specs.declared.fault.StatementFault.{StatementFault}
-use Rattle.dfdl_statements.specs.Settled.{first_asked, first_told, lower, lowest, made_from, noted, places, places_by, refusal, refusal_by, refusal_of, refusals, row_refusal, settled_by}
+use Rattle.dfdl_statements.specs.Settled.{beside, first_asked, first_told, given_at, given_in, lower, lowest, made_from, noted, own_refusal, places, places_by, refusal, refusal_by, refusal_of, refusals, row_refusal, settled_by}
 use Rattle.dfdl_statements.specs.SettledShown.{LooksAt, Settles}
 use Rattle.dfdl_statements.specs.Standing.{slot_asked, slots_asked, standings}
 use Rattle.dfdl_statements.proofs.Tables.{one_more}
@@ -29,23 +30,34 @@ module _ (rows : List Row) (written : List Written) (n : ℕ) where
       ∙ ap (noted (slots_asked rows written (arounds rows) n))
       (grown ∙ (ap (λ l. noted l old) is ∙ (ap (λ t. noted (standings rows written t n) old) around ∙ ap (noted (standings rows written (arounds rows) n)) same))))))
 
-  module _ (read : List ℕ → Option Formula) (sight : Sight) where
-    pub refusal_put : (old new : List (Option Refusal)) (found : Option Refusal) → old ≡ refusals read sight rows written n
-        → found ≡ row_refusal read sight rows written n old → new ≡ old ++ (found ∷ []) → new ≡ refusals read sight rows written (n + 1)
+  module _ (read : List ℕ → Option Formula) (sight : Sight) (given : Option GivenRefusal) where
+    pub refusal_put : (old new : List (Option Refusal)) (found : Option Refusal) → old ≡ refusals read sight rows written given n
+        → found ≡ row_refusal read sight rows written given n old → new ≡ old ++ (found ∷ []) → new ≡ refusals read sight rows written given (n + 1)
     refusal_put old new found same is grown =
         rw add-one
-        (one_more old new (refusals read sight rows written n) found _ grown same (is ∙ ap (row_refusal read sight rows written n) same))
+        (one_more old new (refusals read sight rows written given n) found _ grown same (is ∙ ap (row_refusal read sight rows written given n) same))
 
-    pub row_refused : (told : List (Option Refusal)) (table : List (Option ℕ)) (list : List Standing) (own inner found : Option Refusal) (row : Row)
-        → table ≡ arounds rows → list ≡ standings rows written table n → own ≡ lowest read sight written None list → slice_get rows n ≡ Some row
-        → inner ≡ or_else (first_asked read sight rows written n told (slots_in (Some row))) (first_told told (children_in (Some row)))
-        → found ≡ or_else own inner → found ≡ row_refusal read sight rows written n told
-    row_refused told table list own inner found row around is lowest_is there inner_is found_is =
+    -- that of a row itself
+    pub own_refused : (table : List (Option ℕ)) (list : List Standing) (here found answer : Option Refusal) (row : Row)
+        → table ≡ arounds rows → list ≡ standings rows written table n → here ≡ given_at given n → found ≡ lowest read sight written here list
+        → slice_get rows n ≡ Some row → answer ≡ beside (given_in given (counted_in (Some row))) found → answer ≡ own_refusal read sight rows written given n
+    own_refused table list here found answer row around is here_is lowest_is there answer_is =
+        answer_is
+        ∙ (ap (λ r. beside (given_in given (counted_in r)) found) (sym there)
+        ∙ ap (beside (given_in given (counted_in (slice_get rows n))))
+        (lowest_is
+        ∙ (ap (λ o. lowest read sight written o list) here_is
+        ∙ (ap (lowest read sight written (given_at given n)) is ∙ ap (λ t. lowest read sight written (given_at given n) (standings rows written t n)) around))))
+
+    pub row_refused : (told : List (Option Refusal)) (own inner found : Option Refusal) (row : Row)
+        → own ≡ own_refusal read sight rows written given n → slice_get rows n ≡ Some row
+        → inner ≡ or_else (first_asked read sight rows written given n told (slots_in (Some row))) (first_told told (children_in (Some row)))
+        → found ≡ or_else own inner → found ≡ row_refusal read sight rows written given n told
+    row_refused told own inner found row own_is there inner_is found_is =
         found_is
-        ∙ (ap (λ o. or_else o inner)
-        (lowest_is ∙ (ap (lowest read sight written None) is ∙ ap (λ t. lowest read sight written None (standings rows written t n)) around))
-        ∙ ap (or_else (lowest read sight written None (standings rows written (arounds rows) n)))
-        (inner_is ∙ ap (λ r. or_else (first_asked read sight rows written n told (slots_in r)) (first_told told (children_in r))) (sym there)))
+        ∙ (ap (λ o. or_else o inner) own_is
+        ∙ ap (or_else (own_refusal read sight rows written given n))
+        (inner_is ∙ ap (λ r. or_else (first_asked read sight rows written given n told (slots_in r)) (first_told told (children_in r))) (sym there)))
 
 -- the refusal of what a slot asks for
 pub slot_refused : {E : Type 0} (read : List ℕ → Option Formula) (sight : Sight) (rows : List Row) (written : List Written) (table : List (Option ℕ)) (row : ℕ)
@@ -77,9 +89,10 @@ module _ {Y Z : Type 0} (read : List ℕ → Option Formula) (sight : Sight) (ro
       subst (λ o. Settles (settled_by read sight rows written o) answer) (sym at.0) (made at.1)
 
 -- what is told of the statements that are seen
-pub looked_same : {Y : Type 0} (read : List ℕ → Option Formula) (sight : Sight) (rows : List Row) (seen all : List Written) (looked : Result (Vec (Option Place) Y) Refusal)
-    → seen ≡ all → LooksAt rows seen (refusal read sight rows seen) looked → LooksAt rows all (refusal read sight rows all) looked
-looked_same read sight rows seen all looked same looks = subst (λ ws. LooksAt rows ws (refusal read sight rows ws) looked) same looks
+pub looked_same : {Y : Type 0} (read : List ℕ → Option Formula) (sight : Sight) (rows : List Row) (given : Option GivenRefusal) (seen all : List Written)
+    (looked : Result (Vec (Option Place) Y) Refusal)
+    → seen ≡ all → LooksAt rows seen (refusal read sight rows seen given) looked → LooksAt rows all (refusal read sight rows all given) looked
+looked_same read sight rows given seen all looked same looks = subst (λ ws. LooksAt rows ws (refusal read sight rows ws given) looked) same looks
 
 -- what is told where one is refused
 pub looked_err : {Y : Type 0} (read : List ℕ → Option Formula) (sight : Sight) (rows : List Row) (written : List Written) (found : Option Refusal)

@@ -72,6 +72,11 @@ question_in (Some (Counted question body)) = Some question
 question_in (Some (Dispatch question keys)) = Some question
 question_in _ = None
 
+-- the row that another one repeats as often as an expression tells
+abbrev pub counted_in : Option Row → Option ℕ
+counted_in (Some (Counted question body)) = Some body
+counted_in _ = None
+
 -- the slots of a row, which may ask how often what is in them occurs
 abbrev pub slots_in : Option Row → List Slot
 slots_in (Some (Separated policy position initiated slots)) = slots

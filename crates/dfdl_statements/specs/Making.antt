@@ -92,9 +92,9 @@ as_opening target (Err cause) = Err cause
 abbrev pub bare_opening : Target → Statement
 bare_opening target = statement.Opening (record { variable = target.number; kind = target.kind; start = None })
 
-abbrev pub as_calculation : Simple → Nodes → Result Statement SchemaCause
-as_calculation kind (Ok nodes) = Ok (statement.Calculation (record { kind = kind; expression = nodes }))
-as_calculation kind (Err cause) = Err cause
+abbrev pub as_calculation : Simple → Bool → Nodes → Result Statement SchemaCause
+as_calculation kind output (Ok nodes) = Ok (statement.Calculation (record { kind = kind; expression = nodes; output = output }))
+as_calculation kind output (Err cause) = Err cause
 
 abbrev pub as_question : Nodes → Result Statement SchemaCause
 as_question (Ok nodes) = Ok (statement.Question (record { expression = nodes }))
@@ -128,7 +128,7 @@ module _ (read : List ℕ → Option Formula) where
   made s (source.Test text discriminates message) = as_test discriminates message (expression read s (only one.Truth) text)
   made s (source.Setting variable text) = setting_made s variable text
   made s (source.Opening variable text) = opening_made s variable text
-  made s (source.Calculation kind text) = as_calculation kind (expression read s (only (type_of kind)) text)
+  made s (source.Calculation kind text output) = as_calculation kind output (expression read s (only (type_of kind)) text)
   made s (source.Question asked text) = as_question (expression read s (types_asked asked) text)
 
 -- an expression that nothing asks for
@@ -142,17 +142,17 @@ unused (source.Test text discriminates message) =
     statement.Expression (record { expression = never_asked; discriminates = discriminates; message = message })
 unused (source.Setting variable text) = statement.Expression (record { expression = never_asked; discriminates = false; message = None })
 unused (source.Opening variable text) = statement.Expression (record { expression = never_asked; discriminates = false; message = None })
-unused (source.Calculation kind text) = statement.Calculation (record { kind = kind; expression = never_asked })
+unused (source.Calculation kind text output) = statement.Calculation (record { kind = kind; expression = never_asked; output = output })
 unused (source.Question asked text) = statement.Question (record { expression = never_asked })
 
--- what calculates a value of a type
-abbrev pub IsCalculationOf : Simple → Statement → Type 0
-IsCalculationOf kind (statement.Calculation c) = c.kind ≡ kind
-IsCalculationOf kind (statement.Pattern test) = ⊥
-IsCalculationOf kind (statement.Expression test) = ⊥
-IsCalculationOf kind (statement.Setting setting) = ⊥
-IsCalculationOf kind (statement.Question question) = ⊥
-IsCalculationOf kind (statement.Opening opening) = ⊥
+-- what calculates a value of a type, for writing alone or not
+abbrev pub IsCalculationOf : Simple → Bool → Statement → Type 0
+IsCalculationOf kind output (statement.Calculation c) = (c.kind ≡ kind) × (c.output ≡ output)
+IsCalculationOf kind output (statement.Pattern test) = ⊥
+IsCalculationOf kind output (statement.Expression test) = ⊥
+IsCalculationOf kind output (statement.Setting setting) = ⊥
+IsCalculationOf kind output (statement.Question question) = ⊥
+IsCalculationOf kind output (statement.Opening opening) = ⊥
 
 -- what a row asks for
 abbrev pub IsQuestion : Statement → Type 0
@@ -163,13 +163,13 @@ IsQuestion (statement.Setting setting) = ⊥
 IsQuestion (statement.Calculation calculation) = ⊥
 IsQuestion (statement.Opening opening) = ⊥
 
--- of a calculation that is written a statement is one, of the same type, and of a question a question
+-- of a calculation that is written a statement is one, of the same type and for the same, and of a question a question
 abbrev pub IsOfSource : Source → Statement → Type 0
 IsOfSource (source.Pattern test) s = Unit {0}
 IsOfSource (source.Test text discriminates message) s = Unit {0}
 IsOfSource (source.Setting variable text) s = Unit {0}
 IsOfSource (source.Opening variable text) s = Unit {0}
-IsOfSource (source.Calculation kind text) s = IsCalculationOf kind s
+IsOfSource (source.Calculation kind text output) s = IsCalculationOf kind output s
 IsOfSource (source.Question asked text) s = IsQuestion s
 
 abbrev pub IsMadeOf : Written → Statement → Type 0

@@ -1,17 +1,19 @@
 -- What the statements of a schema come to: each is made where it stands, or one of them is refused. One that no row has is never refused.
-use Rattle.std.specs.Prelude.{ℕ, zero, suc, ◌-◌, List, [], ◌∷◌, ◌++◌, length, replicate, Bool, nat_lt, if◌then◌else◌, Option, Some, None, option_map, Result, Ok, Err, slice_get, slice_index_or, slice_set}
+-- A refusal of another kind may be given with its row: it has its place among theirs, and then no statements are made.
+use Rattle.std.specs.Prelude.{ℕ, zero, suc, ◌-◌, List, [], ◌∷◌, ◌++◌, length, replicate, ◌==◌, Bool, nat_lt, if◌then◌else◌, Option, Some, None, option_map, Result, Ok, Err, slice_get, slice_index_or, slice_set}
 use Rattle.dfdl_expression_tree.specs.Trees.{Formula}
 use Rattle.dfdl_expression_types.specs.declared.statics.Place.{Place}
 use Rattle.dfdl_report.specs.Causes.{schema_number}
 use Rattle.dfdl_report.specs.declared.cause.SchemaCause.{SchemaCause}
 use Rattle.dfdl_terms.specs.declared.row.Row.{Row}
 use Rattle.dfdl_terms.specs.declared.statement.Statement.{Statement}
+use Rattle.dfdl_statements.specs.declared.fault.GivenRefusal.{GivenRefusal}
 use Rattle.dfdl_statements.specs.declared.fault.Refusal.{Refusal}
 use Rattle.dfdl_statements.specs.declared.sight.Sight.{Sight}
 use Rattle.dfdl_statements.specs.declared.standing.Standing.{Standing}
 use Rattle.dfdl_statements.specs.declared.written.Written.{Written}
 use Rattle.dfdl_terms.specs.declared.slots.Slot.{Slot}
-use Rattle.dfdl_statements.specs.Children.{children_in, slots_in}
+use Rattle.dfdl_statements.specs.Children.{children_in, counted_in, slots_in}
 use Rattle.dfdl_statements.specs.Elements.{arounds, or_else}
 use Rattle.dfdl_statements.specs.Making.{made, unused}
 use Rattle.dfdl_statements.specs.MakingShown.{cause_in}
@@ -29,6 +31,26 @@ abbrev pub lower : Option Refusal → Option Refusal → Option Refusal
 lower None b = b
 lower (Some a) None = Some a
 lower (Some a) (Some b) = if is_lower b a then Some b else Some a
+
+-- a refusal that is given, where it is of this row
+abbrev pub given_at : Option GivenRefusal → ℕ → Option Refusal
+given_at None row = None
+given_at (Some given) row = if given.row == row then Some given.refusal else None
+
+-- the same, where there may be no row
+abbrev pub given_in : Option GivenRefusal → Option ℕ → Option Refusal
+given_in given None = None
+given_in given (Some row) = given_at given row
+
+-- the refusal that is found of what is asked for a row, where one is, or the one that is given of that row, where its number is lower
+abbrev pub beside : Option Refusal → Option Refusal → Option Refusal
+beside given None = None
+beside given (Some found) = lower given (Some found)
+
+-- the refusal that is given, wherever it is
+abbrev pub given_of : Option GivenRefusal → Option Refusal
+given_of None = None
+given_of (Some given) = Some given.refusal
 
 -- the first of the refusals of some rows
 abbrev pub first_told : List (Option Refusal) → List ℕ → Option Refusal
@@ -83,29 +105,38 @@ module _ (read : List ℕ → Option Formula) (sight : Sight) (written : List Wr
   lowest found [] = found
   lowest found (s ∷ others) = lowest (lower found (refusal_of s)) others
 
-module _ (read : List ℕ → Option Formula) (sight : Sight) (rows : List Row) (written : List Written) where
+module _ (read : List ℕ → Option Formula) (sight : Sight) (rows : List Row) (written : List Written) (given : Option GivenRefusal) where
+  -- the refusal of what a slot of a row asks for
+  abbrev pub slot_refusal : ℕ → Slot → Option Refusal
+  slot_refusal row slot = beside (given_at given slot.body) (lowest read sight written None (slot_asked rows written (arounds rows) row slot))
+
   -- the first refusal of what slots of a row ask for, or of what is in them
   abbrev pub first_asked : ℕ → List (Option Refusal) → List Slot → Option Refusal
   first_asked row table [] = None
   first_asked row table (slot ∷ slots) =
-      or_else (lowest read sight written None (slot_asked rows written (arounds rows) row slot))
-      (or_else (slice_index_or table slot.body None) (first_asked row table slots))
+      or_else (slot_refusal row slot) (or_else (slice_index_or table slot.body None) (first_asked row table slots))
+
+  -- the refusal of the statements of a row, or of the row, where one is given of it
+  abbrev pub own_refusal : ℕ → Option Refusal
+  own_refusal row =
+      beside (given_in given (counted_in (slice_get rows row)))
+      (lowest read sight written (given_at given row) (standings rows written (arounds rows) row))
 
   -- the refusal of a row, or of what is inside of it, by those of the rows before it
   abbrev pub row_refusal : ℕ → List (Option Refusal) → Option Refusal
   row_refusal row table =
-      or_else (lowest read sight written None (standings rows written (arounds rows) row))
-      (or_else (first_asked row table (slots_in (slice_get rows row))) (first_told table (children_in (slice_get rows row))))
+      or_else (own_refusal row) (or_else (first_asked row table (slots_in (slice_get rows row))) (first_told table (children_in (slice_get rows row))))
 
   -- those of each of the first so many rows
   abbrev pub refusals : ℕ → List (Option Refusal)
   refusals zero = []
   refusals (suc n) = refusals n ++ row_refusal n (refusals n) ∷ []
 
-  -- that of the last row, in which all others are
+  -- that of the last row, in which all others are, and else the one that is given
   abbrev pub refusal : Option Refusal
-  refusal = slice_index_or (refusals (length rows)) (length rows - 1) None
+  refusal = or_else (slice_index_or (refusals (length rows)) (length rows - 1) None) (given_of given)
 
+module _ (read : List ℕ → Option Formula) (sight : Sight) (rows : List Row) (written : List Written) where
   -- the statements from a number on
   abbrev pub made_from : ℕ → List Written → Result (List Statement) Refusal
   made_from number [] = Ok []
@@ -115,6 +146,6 @@ module _ (read : List ℕ → Option Formula) (sight : Sight) (rows : List Row) 
   settled_by (Some why) = Err why
   settled_by None = made_from 0 written
 
-  -- the statements of rows, or the first refusal of one
-  abbrev pub settled : Result (List Statement) Refusal
-  settled = settled_by refusal
+  -- the statements of rows, or the first refusal of one, or that which is given
+  abbrev pub settled : Option GivenRefusal → Result (List Statement) Refusal
+  settled given = settled_by (refusal read sight rows written given)

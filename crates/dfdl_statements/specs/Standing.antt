@@ -42,7 +42,7 @@ question_place Count around = in_element around
 question_place Key around = in_element around
 
 abbrev pub source_place : Source → Option ℕ → Place
-source_place (source.Calculation kind text) around = at_element around
+source_place (source.Calculation kind text output) around = at_element around
 source_place (source.Question asked text) around = question_place asked around
 source_place (source.Pattern test) around = in_element around
 source_place (source.Test text discriminates message) around = in_element around

@@ -9,10 +9,17 @@ pub struct Refusal {
     pub place: Place,
 }
 
+/// A refusal of another kind, and the number of the row that it is of: the last row of the component.
+#[derive(Clone, Copy, Debug, PartialEq, Eq)]
+pub struct GivenRefusal {
+    pub row: u64,
+    pub refusal: Refusal,
+}
+
 /// Why there are no statements.
 #[derive(Clone, Copy, Debug, PartialEq, Eq, Error)]
 pub enum StatementFault {
-    /// One of them is refused.
+    /// One of them is refused, or a refusal was given.
     #[error("a statement that is refused")]
     Refused(Refusal),
     #[error("out of memory")]

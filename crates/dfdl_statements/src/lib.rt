@@ -3,7 +3,7 @@
 //! statement, too ('Lengths', 'Arrays and Optional Elements', 'Choices').
 //!
 //! `declare` gives the elements of rows as paths see them, and the numbers of their names. `settle` makes the statements of what the
-//! schema wrote, or tells which is refused. `specs/Making.antt` says what is made of one where it stands, `specs/Standing.antt` where
+//! schema wrote, or tells which is refused, or tells a refusal of another kind that is given to it with its row. `specs/Making.antt` says what is made of one where it stands, `specs/Standing.antt` where
 //! each stands, and `specs/Settled.antt` what all of them come to.
 #![tactic(auto)]
 
@@ -23,7 +23,7 @@ mod tops;
 mod written;
 
 pub use declaring::{Declared, declare};
-pub use fault::{Refusal, StatementFault};
+pub use fault::{GivenRefusal, Refusal, StatementFault};
 pub use settling::settle;
 pub use sight::Sight;
 pub use written::{Asked, Source, Target, Written};

@@ -195,13 +195,21 @@ fn setting_of(found: Result<Expression, Fault>, target: Target) -> Result<Statem
     }
 }
 
-// A calculated value of a type.
-fn calculation_of(found: Result<Expression, Fault>, kind: Simple) -> Result<Statement, Fault>
-    ensures answer { (due : making.Nodes) → Gives due found → Gives (making.as_calculation kind due) result }
-    ensures kind { IfOk result (making.IsCalculationOf kind) }
+// A calculated value of a type, for writing alone or not.
+fn calculation_of(
+    found: Result<Expression, Fault>,
+    kind: Simple,
+    output: bool,
+) -> Result<Statement, Fault>
+    ensures answer { (due : making.Nodes) → Gives due found → Gives (making.as_calculation kind output due) result }
+    ensures kind { IfOk result (making.IsCalculationOf kind output) }
 {
     match found {
-        Ok(expression) => Ok(Statement::Calculation(Calculation { kind, expression })),
+        Ok(expression) => Ok(Statement::Calculation(Calculation {
+            kind,
+            expression,
+            output,
+        })),
         Err(fault) => Err(fault),
     }
 }
@@ -316,10 +324,10 @@ pub(crate) fn make(alloc: Global, statics: &Statics<'_>, source: Source) -> Resu
         }
         Source::Setting { variable, text } => setting_made(alloc, statics, variable, text.as_str()),
         Source::Opening { variable, text } => opening_made(alloc, statics, variable, &text),
-        Source::Calculation { kind, text } => {
+        Source::Calculation { kind, text, output } => {
             let wanted = Types::only(ValueType::of(kind));
             let found = expression(alloc, statics, wanted, text.as_str());
-            calculation_of(found, kind)
+            calculation_of(found, kind, output)
         }
         Source::Question { asked, text } => {
             let found = expression(alloc, statics, types_asked(asked), text.as_str());
@@ -349,7 +357,11 @@ pub(crate) fn unused(alloc: Global, source: Source) -> Result<Statement, Fault>
         } => test_of(never_asked(alloc), discriminates, message),
         Source::Setting { .. } => test_of(never_asked(alloc), false, None),
         Source::Opening { .. } => test_of(never_asked(alloc), false, None),
-        Source::Calculation { kind, .. } => calculation_of(never_asked(alloc), kind),
+        Source::Calculation { kind, output, .. } => calculation_of(
+            never_asked(alloc),
+            kind,
+            output,
+        ),
         Source::Question { .. } => question_of(never_asked(alloc)),
     }
 }
@@ -441,7 +453,7 @@ pub(crate) fn judge(
             setting_told(alloc, statics, *variable, text.as_str())
         }
         Source::Opening { variable, text } => opening_told(alloc, statics, *variable, text),
-        Source::Calculation { kind, text } => {
+        Source::Calculation { kind, text, .. } => {
             let wanted = Types::only(ValueType::of(*kind));
             told(expression(alloc, statics, wanted, text.as_str()))
         }

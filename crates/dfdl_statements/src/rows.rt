@@ -146,6 +146,16 @@ fn question_of(row: &Row) -> Option<u32>
     }
 }
 
+/// The row that another one repeats as often as an expression tells.
+pub(crate) fn counted_of(row: &Row) -> Option<RowId>
+    ensures { result ≡ children.counted_in (Some row.now) }
+{
+    match row {
+        Row::Counted { body, .. } => Some(*body),
+        _ => None,
+    }
+}
+
 /// The slots of a row, which may ask how often what is in them occurs.
 pub(crate) fn slots_of(row: &Row) -> &[Slot]
     ensures { result.now ≡ children.slots_in (Some row.now) }

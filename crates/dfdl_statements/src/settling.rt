@@ -15,9 +15,9 @@ ghost use Rattle.dfdl_statements.specs.MakingShown.{Gives};
 ghost use Rattle.dfdl_statements.specs.Settled as spec;
 ghost use Rattle.dfdl_statements.specs.SettledShown.{LooksAt, Settles, SettlesOne};
 
-use crate::fault::{Fault, Refusal, StatementFault};
+use crate::fault::{Fault, GivenRefusal, Refusal, StatementFault};
 use crate::making::{judge, make, unused};
-use crate::rows::{children_of, slots_of};
+use crate::rows::{children_of, counted_of, slots_of};
 use crate::sight::{Sight, statics};
 use crate::standing::{Scene, Standing};
 use crate::tops::arounds;
@@ -93,17 +93,65 @@ fn lower(first: Option<Refusal>, second: Option<Refusal>) -> Option<Refusal>
     }
 }
 
-// Of the refusals of some statements that with the lowest number.
+// A refusal that is given, where it is of this row.
+fn given_at(given: Option<GivenRefusal>, row: RowId) -> Option<Refusal>
+    ensures { result ≡ spec.given_at given row }
+{
+    match given {
+        Some(given) => {
+            if given.row == u64::from(row.number()) {
+                Some(given.refusal)
+            } else {
+                None
+            }
+        }
+        None => None,
+    }
+}
+
+// The same, where there may be no row.
+fn given_in(given: Option<GivenRefusal>, row: Option<RowId>) -> Option<Refusal>
+    ensures { result ≡ spec.given_in given row }
+{
+    match row {
+        Some(row) => given_at(given, row),
+        None => None,
+    }
+}
+
+// The refusal that is given, wherever it is.
+fn given_of(given: Option<GivenRefusal>) -> Option<Refusal>
+    ensures { result ≡ spec.given_of given }
+{
+    match given {
+        Some(given) => Some(given.refusal),
+        None => None,
+    }
+}
+
+// The refusal that is found of what is asked for a row, where one is, or the one that is given of that row, where its
+// number is lower.
+fn beside(given: Option<Refusal>, found: Option<Refusal>) -> Option<Refusal>
+    ensures { result ≡ spec.beside given found }
+{
+    match found {
+        Some(found) => lower(given, Some(found)),
+        None => None,
+    }
+}
+
+// Of a refusal and those of some statements that with the lowest number.
 fn lowest(
     alloc: Global,
     sight: &Sight<'_>,
     written: &[Written<'_>],
+    first: Option<Refusal>,
     standings: &[Standing],
 ) -> Result<Option<Refusal>, AllocError>
     ensures { (read : List ℕ → Option Formula) → ReadsTexts read
-        → IfOk result (λ found. found ≡ spec.lowest read sight.now written.now None standings.now) }
+        → IfOk result (λ found. found ≡ spec.lowest read sight.now written.now first standings.now) }
 {
-    let mut found = None;
+    let mut found = first;
     for standing in standings {
         found = lower(found, refusal_of(alloc, sight, written, *standing)?);
     }
@@ -172,8 +220,8 @@ fn slots_asked_at(
     Ok(list)
 }
 
-// The refusal of what a slot of a row asks for.
-fn slot_refusal(
+// The refusal of what a slot of a row asks for, as far as statements tell it.
+fn asked_refusal(
     alloc: Global,
     sight: &Sight<'_>,
     scene: &Scene<'_, '_>,
@@ -187,7 +235,24 @@ fn slot_refusal(
 {
     let mut list = Vec::new(alloc);
     scene.push_slot_asked(&mut list, row, slot)?;
-    lowest(alloc, sight, scene.written, list.as_slice())
+    lowest(alloc, sight, scene.written, None, list.as_slice())
+}
+
+// The refusal of what a slot of a row asks for.
+fn slot_refusal(
+    alloc: Global,
+    sight: &Sight<'_>,
+    scene: &Scene<'_, '_>,
+    given: Option<GivenRefusal>,
+    row: RowId,
+    slot: &Slot,
+) -> Result<Option<Refusal>, AllocError>
+    requires arounds { scene.now.arounds.now ≡ arounds_of scene.now.rows.now }
+    ensures { (read : List ℕ → Option Formula) → ReadsTexts read
+        → IfOk result (λ found. found ≡ spec.slot_refusal read sight.now scene.now.rows.now scene.now.written.now given row slot.now) }
+{
+    let found = asked_refusal(alloc, sight, scene, row, *slot)?;
+    Ok(beside(given_at(given, slot.body), found))
 }
 
 // The first refusal of what slots of a row ask for, or of what is in them.
@@ -195,16 +260,18 @@ fn first_asked(
     alloc: Global,
     sight: &Sight<'_>,
     scene: &Scene<'_, '_>,
+    given: Option<GivenRefusal>,
     row: RowId,
     slots: &[Slot],
     table: &[Option<Refusal>],
 ) -> Result<Option<Refusal>, AllocError>
     requires arounds { scene.now.arounds.now ≡ arounds_of scene.now.rows.now }
     ensures { (read : List ℕ → Option Formula) → ReadsTexts read
-        → IfOk result (λ found. found ≡ spec.first_asked read sight.now scene.now.rows.now scene.now.written.now row table.now slots.now) }
+        → IfOk result (λ found. found
+        ≡ spec.first_asked read sight.now scene.now.rows.now scene.now.written.now given row table.now slots.now) }
 {
     for slot in slots {
-        let asked = slot_refusal(alloc, sight, scene, row, *slot)?;
+        let asked = slot_refusal(alloc, sight, scene, given, row, slot)?;
         let refusal = or_else(asked, entry(table, slot.body));
         if refusal.is_some() {
             return Ok(refusal);
@@ -213,11 +280,32 @@ fn first_asked(
     Ok(None)
 }
 
+// The refusal of the statements of a row, or of the row, where one is given of it.
+fn own_refusal(
+    alloc: Global,
+    sight: &Sight<'_>,
+    scene: &Scene<'_, '_>,
+    given: Option<GivenRefusal>,
+    number: usize,
+) -> Result<Option<Refusal>, AllocError>
+    requires few { length scene.now.rows.now < 2 ^ 32 }
+    requires within { number < length scene.now.rows.now }
+    requires arounds { scene.now.arounds.now ≡ arounds_of scene.now.rows.now }
+    ensures { (read : List ℕ → Option Formula) → ReadsTexts read
+        → IfOk result (λ found. found ≡ spec.own_refusal read sight.now scene.now.rows.now scene.now.written.now given number) }
+{
+    let list = standings_at(alloc, scene, number)?;
+    let here = given_at(given, RowId::new(number as u32));
+    let found = lowest(alloc, sight, scene.written, here, list.as_slice())?;
+    Ok(beside(given_in(given, counted_of(&scene.rows[number])), found))
+}
+
 // The refusal of what is inside of a row.
 fn inner_refusal(
     alloc: Global,
     sight: &Sight<'_>,
     scene: &Scene<'_, '_>,
+    given: Option<GivenRefusal>,
     id: RowId,
     row: &Row,
     table: &[Option<Refusal>],
@@ -225,10 +313,10 @@ fn inner_refusal(
     requires arounds { scene.now.arounds.now ≡ arounds_of scene.now.rows.now }
     ensures { (read : List ℕ → Option Formula) → ReadsTexts read
         → IfOk result (λ found. found
-        ≡ or_else (spec.first_asked read sight.now scene.now.rows.now scene.now.written.now id table.now (slots_in (Some row.now)))
+        ≡ or_else (spec.first_asked read sight.now scene.now.rows.now scene.now.written.now given id table.now (slots_in (Some row.now)))
         (spec.first_told table.now (children_in (Some row.now)))) }
 {
-    let asked = first_asked(alloc, sight, scene, id, slots_of(row), table)?;
+    let asked = first_asked(alloc, sight, scene, given, id, slots_of(row), table)?;
     let children = children_of(alloc, row)?;
     Ok(or_else(asked, first_told(table, children.as_slice())))
 }
@@ -238,6 +326,7 @@ fn row_refusal(
     alloc: Global,
     sight: &Sight<'_>,
     scene: &Scene<'_, '_>,
+    given: Option<GivenRefusal>,
     number: usize,
     table: &[Option<Refusal>],
 ) -> Result<Option<Refusal>, AllocError>
@@ -245,12 +334,11 @@ fn row_refusal(
     requires within { number < length scene.now.rows.now }
     requires arounds { scene.now.arounds.now ≡ arounds_of scene.now.rows.now }
     ensures { (read : List ℕ → Option Formula) → ReadsTexts read
-        → IfOk result (λ found. found ≡ spec.row_refusal read sight.now scene.now.rows.now scene.now.written.now number table.now) }
+        → IfOk result (λ found. found ≡ spec.row_refusal read sight.now scene.now.rows.now scene.now.written.now given number table.now) }
 {
-    let list = standings_at(alloc, scene, number)?;
-    let own = lowest(alloc, sight, scene.written, list.as_slice())?;
+    let own = own_refusal(alloc, sight, scene, given, number)?;
     let id = RowId::new(number as u32);
-    let inner = inner_refusal(alloc, sight, scene, id, &scene.rows[number], table)?;
+    let inner = inner_refusal(alloc, sight, scene, given, id, &scene.rows[number], table)?;
     Ok(or_else(own, inner))
 }
 
@@ -259,33 +347,36 @@ fn refusals(
     alloc: Global,
     sight: &Sight<'_>,
     scene: &Scene<'_, '_>,
+    given: Option<GivenRefusal>,
 ) -> Result<Vec<Option<Refusal>>, AllocError>
     requires few { length scene.now.rows.now < 2 ^ 32 }
     requires arounds { scene.now.arounds.now ≡ arounds_of scene.now.rows.now }
     ensures { (read : List ℕ → Option Formula) → ReadsTexts read
-        → IfOk result (λ table. table.items ≡ spec.refusals read sight.now scene.now.rows.now scene.now.written.now (length scene.now.rows.now)) }
+        → IfOk result (λ table. table.items ≡ spec.refusals read sight.now scene.now.rows.now scene.now.written.now given (length scene.now.rows.now)) }
 {
     let mut table = Vec::new(alloc);
     for number in 0..scene.rows.len() {
-        let refusal = row_refusal(alloc, sight, scene, number, table.as_slice())?;
+        let refusal = row_refusal(alloc, sight, scene, given, number, table.as_slice())?;
         table.push(refusal)?;
     }
     Ok(table)
 }
 
-// The refusal of the last row.
+// The refusal of the last row, and else the one that is given.
 fn last_refusal(
     alloc: Global,
     sight: &Sight<'_>,
     scene: &Scene<'_, '_>,
+    given: Option<GivenRefusal>,
 ) -> Result<Option<Refusal>, AllocError>
     requires few { length scene.now.rows.now < 2 ^ 32 }
     requires arounds { scene.now.arounds.now ≡ arounds_of scene.now.rows.now }
     ensures { (read : List ℕ → Option Formula) → ReadsTexts read
-        → IfOk result (λ found. found ≡ spec.refusal read sight.now scene.now.rows.now scene.now.written.now) }
+        → IfOk result (λ found. found ≡ spec.refusal read sight.now scene.now.rows.now scene.now.written.now given) }
 {
-    let table = refusals(alloc, sight, scene)?;
-    Ok(entry_at(table.as_slice(), scene.rows.len().saturating_sub(1)))
+    let table = refusals(alloc, sight, scene, given)?;
+    let last = entry_at(table.as_slice(), scene.rows.len().saturating_sub(1));
+    Ok(or_else(last, given_of(given)))
 }
 
 fn entry_at(table: &[Option<Refusal>], number: usize) -> Option<Refusal>
@@ -428,16 +519,17 @@ fn push(statements: &mut Vec<Statement>, statement: Statement) -> Result<(), All
     Ok(())
 }
 
-// Where each statement stands, or the refusal of one.
+// Where each statement stands, or the refusal of one, or that which is given.
 fn looked_at(
     alloc: Global,
     rows: &[Row],
     sight: &Sight<'_>,
     written: &[Written<'_>],
+    given: Option<GivenRefusal>,
 ) -> Result<Result<Vec<Option<Place>>, Refusal>, AllocError>
     requires { length rows.now < 2 ^ 32 }
     ensures { (read : List ℕ → Option Formula) → ReadsTexts read
-        → IfOk result (LooksAt rows.now written.now (spec.refusal read sight.now rows.now written.now)) }
+        → IfOk result (LooksAt rows.now written.now (spec.refusal read sight.now rows.now written.now given)) }
 {
     let arounds = arounds(alloc, rows)?;
     let scene = Scene {
@@ -445,29 +537,31 @@ fn looked_at(
         written,
         arounds: arounds.as_slice(),
     };
-    let refusal = last_refusal(alloc, sight, &scene)?;
+    let refusal = last_refusal(alloc, sight, &scene, given)?;
     match refusal {
         Some(refusal) => Ok(Err(refusal)),
         None => Ok(Ok(places(alloc, &scene)?)),
     }
 }
 
-/// The statements of rows, each made of what is written under its number, or the first refusal of one, wherever it stands.
+/// The statements of rows, each made of what is written under its number, or the first refusal of one, wherever it stands. A refusal of
+/// another kind that is given has its place among these, and is told where none stands before it.
 ///
-/// Rows are looked at from the last one on, what is inside of a row in its order. Of the statements of one component the refusal with the lowest
-/// number is told, and of these the first. `read` stands for what texts are read as.
+/// Rows are looked at from the last one on, what is inside of a row in its order. Of the statements of one component, and of a refusal that is
+/// given of it, the refusal with the lowest number is told, and of these the first. `read` stands for what texts are read as.
 pub fn settle(
     alloc: Global,
     rows: &[Row],
     sight: &Sight<'_>,
     written: Vec<Written<'_>>,
+    given: Option<GivenRefusal>,
 ) -> Result<Vec<Statement>, StatementFault>
     requires { length rows.now < 2 ^ 32 }
     ensures answer { (read : List ℕ → Option Formula) → ReadsTexts read
-        → Settles (spec.settled read sight.now rows.now written.entry.items) result }
+        → Settles (spec.settled read sight.now rows.now written.entry.items given) result }
     ensures made { IfOk result (λ made. AllZip IsMadeOf written.entry.items made.items) }
 {
-    let looked = looked_at(alloc, rows, sight, written.as_slice())?;
+    let looked = looked_at(alloc, rows, sight, written.as_slice(), given)?;
     match looked {
         Ok(places) => made(alloc, sight, places.as_slice(), written),
         Err(refusal) => Err(StatementFault::Refused(refusal)),

@@ -3,9 +3,11 @@
 
 ghost use Rattle.std.specs.Prelude.{◌≡◌, ◌<◌, ◌^◌, IfOk, length};
 
-use crate::{Asked, Sight, Source, StatementFault, Target, Written, declare, settle};
+use crate::{
+    Asked, GivenRefusal, Refusal, Sight, Source, StatementFault, Target, Written, declare, settle,
+};
 use dfdl_expression_types::Variable;
-use dfdl_report::Place;
+use dfdl_report::{Place, SchemaCause};
 use dfdl_terms::{
     LengthUnit, Measure, Representations, Row, RowId, RowList, Statement, Statements, WhereTried,
 };
@@ -119,8 +121,13 @@ fn answer_of(answer: Result<Vec<Statement>, StatementFault>) -> Result<Answer, A
     }
 }
 
-// What statements of rows come to.
-fn settled(alloc: Global, rows: &[Row], all: Vec<Written<'_>>) -> Result<Answer, AllocError>
+// What statements of rows come to, where a refusal of another kind may be given.
+fn settled(
+    alloc: Global,
+    rows: &[Row],
+    all: Vec<Written<'_>>,
+    given: Option<GivenRefusal>,
+) -> Result<Answer, AllocError>
     requires { length rows.now < 2 ^ 32 }
 {
     let variables = variables(alloc)?;
@@ -130,18 +137,29 @@ fn settled(alloc: Global, rows: &[Row], all: Vec<Written<'_>>) -> Result<Answer,
         names: &declared.names,
         variables: &variables,
     };
-    answer_of(settle(alloc, rows, &sight, all))
+    answer_of(settle(alloc, rows, &sight, all, given))
 }
 
 // What three statements come to.
 fn told(alloc: Global, first: &str, set: &str, last: &str) -> Result<Answer, AllocError> {
+    told_with(alloc, first, set, last, None)
+}
+
+// The same, where a refusal of another kind may be given.
+fn told_with(
+    alloc: Global,
+    first: &str,
+    set: &str,
+    last: &str,
+    given: Option<GivenRefusal>,
+) -> Result<Answer, AllocError> {
     let prefixes = BTreeMap::new(alloc);
     let rows = rows(alloc)?;
     let mut all = Vec::new(alloc);
     all.push(written(test(alloc, first)?, 1, &prefixes))?;
     all.push(written(setting(alloc, set)?, 2, &prefixes))?;
     all.push(written(test(alloc, last)?, 3, &prefixes))?;
-    settled(alloc, rows.as_slice(), all)
+    settled(alloc, rows.as_slice(), all, given)
 }
 
 fn are_made(alloc: Global, first: &str, set: &str, last: &str) -> Result<bool, AllocError> {
@@ -219,7 +237,7 @@ fn told_of_one(alloc: Global, first: &str, other: &str) -> Result<Answer, AllocE
     let mut all = Vec::new(alloc);
     all.push(written(test(alloc, first)?, 1, &prefixes))?;
     all.push(written(test(alloc, other)?, 2, &prefixes))?;
-    settled(alloc, rows.as_slice(), all)
+    settled(alloc, rows.as_slice(), all, None)
 }
 
 fn one_is_refused(
@@ -265,8 +283,13 @@ fn question(alloc: Global, asked: Asked, text: &str) -> Result<Source, AllocErro
     })
 }
 
-// What a length and a count come to.
-fn told_of_questions(alloc: Global, length: &str, count: &str) -> Result<Answer, AllocError> {
+// What a length and a count come to, where a refusal of another kind may be given.
+fn told_of_questions(
+    alloc: Global,
+    length: &str,
+    count: &str,
+    given: Option<GivenRefusal>,
+) -> Result<Answer, AllocError> {
     let prefixes = BTreeMap::new(alloc);
     let rows = asking_rows(alloc)?;
     let mut all = Vec::new(alloc);
@@ -274,7 +297,7 @@ fn told_of_questions(alloc: Global, length: &str, count: &str) -> Result<Answer,
     all.push(written(question(alloc, Asked::Length, length)?, 2, &prefixes))?;
     all.push(written(question(alloc, Asked::Count, count)?, 3, &prefixes))?;
     all.push(written(test(alloc, "{ x gt 0 }")?, 4, &prefixes))?;
-    settled(alloc, rows.as_slice(), all)
+    settled(alloc, rows.as_slice(), all, given)
 }
 
 fn questions_come_to(
@@ -284,7 +307,7 @@ fn questions_come_to(
     cause: u8,
     at: u64,
 ) -> Result<bool, AllocError> {
-    let told = told_of_questions(alloc, length, count)?;
+    let told = told_of_questions(alloc, length, count, None)?;
     Ok(told.cause == cause && told.at == at)
 }
 
@@ -349,7 +372,7 @@ fn told_of_opening(
     all.push(written(setting(alloc, set)?, 2, &prefixes))?;
     all.push(written(opening(alloc, start)?, 3, &prefixes))?;
     all.push(written(test(alloc, last)?, 4, &prefixes))?;
-    settled(alloc, rows.as_slice(), all)
+    settled(alloc, rows.as_slice(), all, None)
 }
 
 fn opening_comes_to(
@@ -373,5 +396,67 @@ fn instances_are_opened_or_refused(rt: HostRuntime) -> Result<(), Fail> {
     assert!(&rt; opening_comes_to(alloc, "{ 'a' }", "1", "{ x lt 5 }", 35, 3)?);
     assert!(&rt; opening_comes_to(alloc, "{ 'a' }", "{ 1", "{ x lt 5 }", 34, 2)?);
     assert!(&rt; opening_comes_to(alloc, "{ 'a' }", "a", "{ y lt }", 34, 4)?);
+    Ok(())
+}
+
+// A refusal of the component of a row, which begins at the byte 9.
+fn given(row: u64, cause: SchemaCause) -> GivenRefusal {
+    GivenRefusal {
+        row,
+        refusal: Refusal {
+            cause,
+            place: Place { document: 0, at: 9 },
+        },
+    }
+}
+
+// With a refusal the test behind x and that behind r come to this.
+fn comes_to(
+    alloc: Global,
+    first: &str,
+    last: &str,
+    given: GivenRefusal,
+    cause: u8,
+    at: u64,
+) -> Result<bool, AllocError> {
+    let told = told_with(alloc, first, "{ 5 }", last, Some(given))?;
+    Ok(told.cause == cause && told.at == at)
+}
+
+#[test]
+fn a_given_refusal_stands_at_its_row(rt: HostRuntime) -> Result<(), Fail> {
+    let alloc = rt.alloc();
+    let early = SchemaCause::UnboundedElement;
+    let late = SchemaCause::ElementTwice;
+    assert!(&rt; comes_to(alloc, "{ . gt 0 }", "{ x lt 5 }", given(1, early), 31, 9)?);
+    assert!(&rt; comes_to(alloc, "{ y gt 0 }", "{ x lt 5 }", given(1, early), 31, 9)?);
+    assert!(&rt; comes_to(alloc, "{ y gt 0 }", "{ x lt 5 }", given(1, late), 36, 1)?);
+    assert!(&rt; comes_to(alloc, "{ . gt 0 }", "{ y lt 5 }", given(1, early), 36, 3)?);
+    assert!(&rt; comes_to(alloc, "{ y gt 0 }", "{ x lt 5 }", given(4, late), 40, 9)?);
+    assert!(&rt; comes_to(alloc, "{ y gt 0 }", "{ x lt 5 }", given(5, early), 36, 1)?);
+    assert!(&rt; comes_to(alloc, "{ . gt 0 }", "{ x lt 5 }", given(5, early), 31, 9)?);
+    Ok(())
+}
+
+// With a refusal of x a count comes to this.
+fn count_comes_to(
+    alloc: Global,
+    count: &str,
+    refused: SchemaCause,
+    cause: u8,
+    at: u64,
+) -> Result<bool, AllocError> {
+    let told = told_of_questions(alloc, "{ 2 }", count, Some(given(1, refused)))?;
+    Ok(told.cause == cause && told.at == at)
+}
+
+#[test]
+fn a_count_stands_at_its_element(rt: HostRuntime) -> Result<(), Fail> {
+    let alloc = rt.alloc();
+    let early = SchemaCause::UnboundedElement;
+    let late = SchemaCause::ElementTwice;
+    assert!(&rt; count_comes_to(alloc, "{ 2 }", early, 31, 9)?);
+    assert!(&rt; count_comes_to(alloc, "{ y }", early, 31, 9)?);
+    assert!(&rt; count_comes_to(alloc, "{ y }", late, 36, 3)?);
     Ok(())
 }

@@ -47,10 +47,12 @@ pub enum Source {
         variable: Option<Target>,
         text: Option<TextValue>,
     },
-    /// The value of an element that has no representation.
+    /// The value of an element that has no representation, or the value by which an element is written.
     Calculation {
         kind: Simple,
         text: TextValue,
+        /// It is that of writing alone.
+        output: bool,
     },
     /// What a row asks for, by an expression.
     Question {

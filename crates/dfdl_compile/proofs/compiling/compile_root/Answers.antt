@@ -49,9 +49,9 @@ finish-requires-clause-bounded c =
 pub returns-clause-rows : goal.returns-clause-rows
 returns-clause-rows c = λ refused told.
     all_end c.args.schema.now (by_root c.args.purpose refused c.args.schema.now c.args.depth c.args.rows (Some c.args.root))
-    (laid c.in_ok-made.made.items (told_shown c.in_ok-told.told c.in_ok-variables.variables.items)) c.finish.result
+    (laid c.in_ok-made.field-0.rows.items c.in_ok-made.field-0.refused (told_shown c.in_ok-told.told c.in_ok-variables.variables.items)) c.finish.result
     (c.in_ok-made.ensures.rows refused (c.as_slice.ensures.value ∙ told)
-    ∙ ap (λ (l : Laid). Ok l) (sym (laid_is c.in_ok-made.made.items (told_shown c.in_ok-told.told c.in_ok-variables.variables.items) (told_of c.args.purpose refused c.args.schema.now)
+    ∙ ap (λ (l : Laid). Ok l) (sym (laid_is c.in_ok-made.field-0.rows.items c.in_ok-made.field-0.refused (told_shown c.in_ok-told.told c.in_ok-variables.variables.items) (told_of c.args.purpose refused c.args.schema.now)
     (told_is c.args.purpose refused c.args.schema.now c.in_ok-told.told c.in_ok-variables.variables.items
     (tables_are c.args.purpose refused c.args.schema.now c.args.judgements.items c.in_ok-told.told.primitives.items told c.in_ok-told.ensures.primitives)
     (lists_are c.args.purpose refused c.args.schema.now c.args.judgements.items c.in_ok-told.told.delimiters.items told c.in_ok-told.ensures.delimiters)
@@ -62,9 +62,9 @@ returns-clause-rows c = λ refused told.
 pub returns-clause-fault : goal.returns-clause-fault
 returns-clause-fault c = λ refused told.
     all_faults c.args.schema.now (by_root c.args.purpose refused c.args.schema.now c.args.depth c.args.rows (Some c.args.root))
-    (laid c.in_ok-made.made.items (told_shown c.in_ok-told.told c.in_ok-variables.variables.items)) c.finish.result
+    (laid c.in_ok-made.field-0.rows.items c.in_ok-made.field-0.refused (told_shown c.in_ok-told.told c.in_ok-variables.variables.items)) c.finish.result
     (c.in_ok-made.ensures.rows refused (c.as_slice.ensures.value ∙ told)
-    ∙ ap (λ (l : Laid). Ok l) (sym (laid_is c.in_ok-made.made.items (told_shown c.in_ok-told.told c.in_ok-variables.variables.items) (told_of c.args.purpose refused c.args.schema.now)
+    ∙ ap (λ (l : Laid). Ok l) (sym (laid_is c.in_ok-made.field-0.rows.items c.in_ok-made.field-0.refused (told_shown c.in_ok-told.told c.in_ok-variables.variables.items) (told_of c.args.purpose refused c.args.schema.now)
     (told_is c.args.purpose refused c.args.schema.now c.in_ok-told.told c.in_ok-variables.variables.items
     (tables_are c.args.purpose refused c.args.schema.now c.args.judgements.items c.in_ok-told.told.primitives.items told c.in_ok-told.ensures.primitives)
     (lists_are c.args.purpose refused c.args.schema.now c.args.judgements.items c.in_ok-told.told.delimiters.items told c.in_ok-told.ensures.delimiters)
@@ -74,19 +74,19 @@ returns-clause-fault c = λ refused told.
 
 pub returns-clause-element : goal.returns-clause-element
 returns-clause-element c =
-    if_there (λ (t : Table). t.rows ≡ c.in_ok-made.made.items) HasElementLast c.finish.result c.finish.ensures.rows
+    if_there (λ (t : Table). t.rows ≡ c.in_ok-made.field-0.rows.items) HasElementLast c.finish.result c.finish.ensures.rows
     (λ t is. subst (λ (rs : List Row). EndsWithElement rs) (sym is) c.in_ok-made.ensures.element)
 
 pub returns-clause-leaves : goal.returns-clause-leaves
 returns-clause-leaves c =
-    if_there (λ (t : Table). (t.rows ≡ c.in_ok-made.made.items)
+    if_there (λ (t : Table). (t.rows ≡ c.in_ok-made.field-0.rows.items)
     × ((t.primitives ≡ c.in_ok-told.told.primitives.items) × AllZip IsAsWritten c.in_ok-told.told.noted.items t.statements)) HasTypedLeaves c.finish.result
-    (both (λ (t : Table). t.rows ≡ c.in_ok-made.made.items)
+    (both (λ (t : Table). t.rows ≡ c.in_ok-made.field-0.rows.items)
     (λ (t : Table). (t.primitives ≡ c.in_ok-told.told.primitives.items) × AllZip IsAsWritten c.in_ok-told.told.noted.items t.statements)
     c.finish.result c.finish.ensures.rows
     (both (λ (t : Table). t.primitives ≡ c.in_ok-told.told.primitives.items)
     (λ (t : Table). AllZip IsAsWritten c.in_ok-told.told.noted.items t.statements) c.finish.result c.finish.ensures.primitives c.finish.ensures.written))
-    (λ t is. leaves_typed c.args.purpose c.requires.told.0 c.args.schema.now t c.in_ok-made.made.items is.0
+    (λ t is. leaves_typed c.args.purpose c.requires.told.0 c.args.schema.now t c.in_ok-made.field-0.rows.items is.0
     (is.1.0 ∙ tables_are c.args.purpose c.requires.told.0 c.args.schema.now c.args.judgements.items c.in_ok-told.told.primitives.items c.requires.told.1 c.in_ok-told.ensures.primitives)
     (subst (λ (ns : List Noted). AllZip IsAsWritten ns t.statements)
     (noted_are c.args.purpose c.requires.told.0 c.args.schema.now c.args.judgements.items c.in_ok-told.told.noted.items c.requires.told.1 c.in_ok-told.ensures.noted) is.1.1)
@@ -101,14 +101,14 @@ returns-clause-whole c = λ unparsing.
 
 pub returns-clause-bare : goal.returns-clause-bare
 returns-clause-bare c = λ unparsing.
-    if_there (λ (t : Table). (t.rows ≡ c.in_ok-made.made.items) × (t.primitives ≡ c.in_ok-told.told.primitives.items)) HasBareTypedLeaves c.finish.result
-    (both (λ (t : Table). t.rows ≡ c.in_ok-made.made.items) (λ (t : Table). t.primitives ≡ c.in_ok-told.told.primitives.items)
+    if_there (λ (t : Table). (t.rows ≡ c.in_ok-made.field-0.rows.items) × (t.primitives ≡ c.in_ok-told.told.primitives.items)) HasBareTypedLeaves c.finish.result
+    (both (λ (t : Table). t.rows ≡ c.in_ok-made.field-0.rows.items) (λ (t : Table). t.primitives ≡ c.in_ok-told.told.primitives.items)
     c.finish.result c.finish.ensures.rows c.finish.ensures.primitives)
-    (λ t is. bare_typed c.args.purpose c.requires.told.0 c.args.schema.now t c.in_ok-made.made.items is.0
+    (λ t is. bare_typed c.args.purpose c.requires.told.0 c.args.schema.now t c.in_ok-made.field-0.rows.items is.0
     (is.1 ∙ tables_are c.args.purpose c.requires.told.0 c.args.schema.now c.args.judgements.items c.in_ok-told.told.primitives.items c.requires.told.1 c.in_ok-told.ensures.primitives)
     (c.in_ok-made.ensures.bare unparsing c.requires.told.0 (c.as_slice.ensures.value ∙ c.requires.told.1)))
 
 pub returns-clause-plain : goal.returns-clause-plain
 returns-clause-plain c = λ unparsing.
-    if_there (λ (t : Table). t.rows ≡ c.in_ok-made.made.items) (λ (t : Table). HasPlainRows t.rows) c.finish.result c.finish.ensures.rows
+    if_there (λ (t : Table). t.rows ≡ c.in_ok-made.field-0.rows.items) (λ (t : Table). HasPlainRows t.rows) c.finish.result c.finish.ensures.rows
     (λ t is. subst (λ (rs : List Row). HasPlainRows rs) (sym is) (c.in_ok-made.ensures.plain unparsing))

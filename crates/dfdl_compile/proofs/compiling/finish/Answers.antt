@@ -21,7 +21,7 @@ terms_from-requires-clause-bounded c =
 
 pub returns-clause-settled : goal.returns-clause-settled
 returns-clause-settled c =
-    finished c.args.schema.now c.args.rows.items (told_shown c.args.told c.args.variables.items) c.in_ok-statements.field-0.statements.items c.new-tables.result
+    finished c.args.schema.now c.args.rows.items c.args.refused (told_shown c.args.told c.args.variables.items) c.in_ok-statements.field-0.statements.items c.new-tables.result
     c.terms_from.result c.terms_from.ensures
     (c.new-tables.ensures
     ∙ (λ i. record {
@@ -31,7 +31,7 @@ returns-clause-settled c =
       names = (c.in_ok-statements.ensures.numbers ∙ ap name_numbers c.as_slice.ensures.value) i;
       variables = c.in_ok-variables.ensures i;
     }))
-    (c.in_ok-statements.ensures.settled (laid c.args.rows.items (told_shown c.args.told c.args.variables.items)) (sym c.as_slice.ensures.value) refl)
+    (c.in_ok-statements.ensures.settled (laid c.args.rows.items c.args.refused (told_shown c.args.told c.args.variables.items)) (sym c.as_slice.ensures.value) refl refl)
 
 pub returns-clause-written : goal.returns-clause-written
 returns-clause-written c =
@@ -41,5 +41,5 @@ returns-clause-written c =
 
 pub returns-in_err-statements-clause-fault : goal.returns-in_err-statements-clause-fault
 returns-in_err-statements-clause-fault c =
-    let given = c.in_err-statements.ensures.fault (laid c.args.rows.items (told_shown c.args.told c.args.variables.items)) (sym c.as_slice.ensures.value) refl in
+    let given = c.in_err-statements.ensures.fault (laid c.args.rows.items c.args.refused (told_shown c.args.told c.args.variables.items)) (sym c.as_slice.ensures.value) refl refl in
     search (rules, given)

@@ -38,7 +38,7 @@ rows_of-requires c =
 
 pub returns-in-Ok-clause-rows : goal.returns-in-Ok-clause-rows
 returns-in-Ok-clause-rows c = λ refused told.
-    root_laid c.args.purpose refused c.args.schema.now c.args.depth c.args.rows c.args.root c.in_ok-components.components c.number-number.result c.in-Ok.made.items
+    root_laid c.args.purpose refused c.args.schema.now c.args.depth c.args.rows c.args.root c.in_ok-components.components c.number-number.result c.in-Ok.made.rows.items c.in-Ok.made.refused
     (c.in_ok-components.ensures.components refused (c.in_ok-gathered.ensures.gathered refused told)
     ∙ ap (λ (q : Purpose). components_of q refused c.args.schema.now) c.in_ok-gathered.ensures.purpose)
     c.number-number.ensures
@@ -68,14 +68,14 @@ returns-in-Ok-clause-named c = λ refused told named primitives delimiters count
 
 pub returns-in-Ok-clause-element : goal.returns-in-Ok-clause-element
 returns-in-Ok-clause-element c =
-    root_element c.args.purpose c.requires.told.0 c.args.schema.now c.args.root c.in_ok-components.components c.number-number.result c.in-Ok.made.items
+    root_element c.args.purpose c.requires.told.0 c.args.schema.now c.args.root c.in_ok-components.components c.number-number.result c.in-Ok.made.rows.items
     (c.in_ok-components.ensures.components c.requires.told.0 (c.in_ok-gathered.ensures.gathered c.requires.told.0 c.requires.told.1)
     ∙ ap (λ (q : Purpose). components_of q c.requires.told.0 c.args.schema.now) c.in_ok-gathered.ensures.purpose)
     c.number-number.ensures c.requires.within c.requires.global c.in-Ok.ensures.root
 
 pub returns-in-Ok-clause-leaves : goal.returns-in-Ok-clause-leaves
 returns-in-Ok-clause-leaves c = λ refused told.
-    subst (λ (s : Schema). HaveLeaves s.components c.in-Ok.made.items)
+    subst (λ (s : Schema). HaveLeaves s.components c.in-Ok.made.rows.items)
     (c.in_ok-components.ensures.components refused (c.in_ok-gathered.ensures.gathered refused told)
     ∙ ap (λ (q : Purpose). components_of q refused c.args.schema.now) c.in_ok-gathered.ensures.purpose)
     c.in-Ok.ensures.leaves
@@ -84,7 +84,7 @@ pub returns-in-Ok-clause-bare : goal.returns-in-Ok-clause-bare
 returns-in-Ok-clause-bare c = λ unparsing refused told.
     let schema_is = c.in_ok-components.ensures.components refused (c.in_ok-gathered.ensures.gathered refused told)
     ∙ ap (λ (q : Purpose). components_of q refused c.args.schema.now) c.in_ok-gathered.ensures.purpose in
-    subst (λ (s : Schema). HaveBareLeaves s.components c.in-Ok.made.items) schema_is
+    subst (λ (s : Schema). HaveBareLeaves s.components c.in-Ok.made.rows.items) schema_is
     (c.in-Ok.ensures.bare (bare_components refused c.args.schema.now c.sound_elements_have_bounded_primitives.ensures.parsing
     c.statements_are_for_parsing.ensures.tests c.statements_are_for_parsing.ensures.checks c.statements_are_for_parsing.ensures.calculated c.statements_are_for_parsing.ensures.settings
     c.statements_are_for_parsing.ensures.hidden c.statements_are_for_parsing.ensures.unmeasured c.statements_are_for_parsing.ensures.uncounted c.args.purpose c.in_ok-components.components unparsing schema_is))

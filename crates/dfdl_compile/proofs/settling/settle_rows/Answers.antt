@@ -12,6 +12,6 @@ settle_with-requires-clause-sees c = record {
 }
 
 pub returns-in_err-statements-clause-fault : goal.returns-in_err-statements-clause-fault
-returns-in_err-statements-clause-fault c = λ laid rows_are noted_are.
-    let given = c.in_err-statements.ensures.fault laid rows_are noted_are in
+returns-in_err-statements-clause-fault c = λ laid rows_are refused_is noted_are.
+    let given = c.in_err-statements.ensures.fault laid rows_are refused_is noted_are in
     search (rules, given)

@@ -8,8 +8,9 @@ use Rattle.dfdl_compile.proofs.Written.{all_as_written}
 use Rattle.dfdl_compile.proofs.settling.settle_with.Goals as goal
 
 pub returns-in-Ok-clause-settled : goal.returns-in-Ok-clause-settled
-returns-in-Ok-clause-settled c = λ laid rows_are noted_are.
-    settles_so c.args.schema.now laid c.args.rows.now c.args.noted.items c.args.sight.now c.in_ok-written.written.items (Ok c.in-Ok.statements.items) rows_are noted_are
+returns-in-Ok-clause-settled c = λ laid rows_are refused_is noted_are.
+    settles_so c.args.schema.now laid c.args.rows.now c.args.noted.items c.args.sight.now c.in_ok-written.written.items c.args.refused c.given_of.result (Ok c.in-Ok.statements.items)
+    rows_are refused_is c.given_of.ensures noted_are
     c.requires.sees c.in_ok-written.ensures c.in-Ok.ensures.answer
 
 pub returns-in-Ok-clause-counted : goal.returns-in-Ok-clause-counted
@@ -22,7 +23,8 @@ returns-in-Ok-clause-written c =
     all_as_written c.args.schema.now c.args.noted.items c.in_ok-written.written.items c.in-Ok.statements.items c.in_ok-written.ensures c.in-Ok.ensures.made
 
 pub returns-clause-fault : goal.returns-clause-fault
-returns-clause-fault c = λ laid rows_are noted_are.
+returns-clause-fault c = λ laid rows_are refused_is noted_are.
     subst (IsSettledFault c.args.schema.now laid) (sym c.statement_fault.ensures)
-    (statements_fault c.args.schema.now Global laid c.args.rows.now c.args.noted.items c.args.sight.now c.in_ok-written.written.items c.in-Err.fault rows_are noted_are
+    (statements_fault c.args.schema.now Global laid c.args.rows.now c.args.noted.items c.args.sight.now c.in_ok-written.written.items
+    c.args.refused c.given_of.result c.in-Err.fault rows_are refused_is c.given_of.ensures noted_are
     c.requires.sees c.in_ok-written.ensures c.in-Err.ensures.answer)

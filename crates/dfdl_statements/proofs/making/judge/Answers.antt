@@ -19,7 +19,7 @@ returns-in-Opening c = λ read reads.
 pub returns-in-Calculation : goal.returns-in-Calculation
 returns-in-Calculation c = λ read reads.
     calculation_told read c.args.statics.now c.told-in-Calculation.result c.args.source.now c.in-Calculation.text c.as_str-in-Calculation.result.now
-    c.in-Calculation.kind c.of.result c.only-wanted-in-Calculation.result c.expression-in-Calculation.result c.in-Calculation.is
+    c.in-Calculation.kind c.in-Calculation.output c.of.result c.only-wanted-in-Calculation.result c.expression-in-Calculation.result c.in-Calculation.is
     c.as_str-in-Calculation.ensures c.only-wanted-in-Calculation.ensures c.of.ensures (c.expression-in-Calculation.ensures read reads)
     c.told-in-Calculation.ensures
 

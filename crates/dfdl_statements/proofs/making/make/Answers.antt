@@ -19,7 +19,7 @@ returns-in-Opening-clause-answer c = λ read reads.
 pub returns-in-Calculation-clause-answer : goal.returns-in-Calculation-clause-answer
 returns-in-Calculation-clause-answer c = λ read reads.
     calculation_made read c.args.statics.now c.calculation_of.result c.args.source c.in-Calculation.text c.as_str-in-Calculation.result.now
-    c.in-Calculation.kind c.of.result c.only-wanted-in-Calculation.result c.expression-found-in-Calculation.result c.in-Calculation.is
+    c.in-Calculation.kind c.in-Calculation.output c.of.result c.only-wanted-in-Calculation.result c.expression-found-in-Calculation.result c.in-Calculation.is
     c.as_str-in-Calculation.ensures c.only-wanted-in-Calculation.ensures c.of.ensures (c.expression-found-in-Calculation.ensures read reads)
     c.calculation_of.ensures.answer
 

@@ -6,4 +6,4 @@ use Rattle.dfdl_statements.proofs.settling.refusals.Given as goal
 
 abbrev pub invariant-loop-number : goal.invariant-loop-number
 invariant-loop-number l = (read : List ℕ → Option Formula) → ReadsTexts read
-    → l.table.items ≡ refusals read l.sight l.scene.rows.now l.scene.written.now l.number
+    → l.table.items ≡ refusals read l.sight l.scene.rows.now l.scene.written.now l.given l.number

@@ -1,0 +1,5 @@
+use Rattle.dfdl_cells.proofs.Answered.{answers_same, bit_answers}
+use Rattle.dfdl_cells.proofs.placing.bit_of.Goals as goal
+
+pub returns : goal.returns
+returns c = answers_same _ c.args.known.now _ _ c.bits_from_start.ensures (bit_answers c.args.known.now c.args.book.now c.args.place.now)

@@ -1,0 +1,10 @@
+pub mod Books
+pub mod Plans
+pub mod Values
+pub mod Lengths
+pub mod Places
+pub mod Pieces
+pub mod Separators
+pub mod Equations
+pub mod Asking
+pub mod Answers

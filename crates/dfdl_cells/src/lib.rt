@@ -1,0 +1,29 @@
+//! The unknowns of unparsing and their equations ('DFDL Processing Introduction').
+//!
+//! An infoset is laid as pieces in data order, and what they depend on are unknowns: values, occurrences, lengths, starts and the
+//! bits of the pieces themselves. Each unknown has one equation, a tree that asks for other unknowns (`specs/Equations.antt`, over `specs/Lengths.antt`,
+//! `specs/Places.antt` and `specs/Separators.antt`); what they come to is their least solution (dfdl_suspend). Evaluated are places, whose contracts cite
+//! `Answers` (`specs/Answers.antt`).
+#![tactic(auto)]
+
+pub mod asking;
+pub mod book;
+pub mod cell;
+pub mod complex;
+mod passing;
+pub mod piece;
+mod placing;
+pub mod step;
+#[cfg(test)]
+mod tests;
+pub mod writing;
+
+pub use asking::Stop;
+pub use book::{Book, NumberList};
+pub use cell::{Cell, CellList};
+pub use complex::{Complex, StepList};
+pub use dfdl_suspend::CellId;
+pub use piece::{Bound, Earlier, Piece, SlotEnd, Stands};
+pub use placing::{bit_of, place_of};
+pub use step::{Mark, Place, Step};
+pub use writing::Writing;

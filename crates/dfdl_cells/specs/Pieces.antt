@@ -155,7 +155,7 @@ content_known book place (Ok one) = if nat_lt 0 one.fill then asked_bit book pla
 abbrev pub separator_or : Book → SeparatorPosition → Stands → Earlier → Result Written Unwritten → Asks Held
 separator_or book position slot before (Ok one) = separator book position one.bits slot before
 separator_or book position slot before (Err cause) =
-    is_earlier book before (λ is_before. stands book slot (λ is_written. told_or position is_written is_before (cause_of cause)))
+    is_earlier book before (λ is_before. stands book slot (λ is_written. told_or position slot is_written is_before (cause_of cause)))
 
 -- the equation of the bits of a piece that is laid; what has fill asks for its place, since fill is told by the place of each bit
 abbrev pub equation_of : Plan → Book → ℕ → Piece → Asks Held

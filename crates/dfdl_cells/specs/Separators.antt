@@ -67,17 +67,23 @@ abbrev pub one_if : Bool → ℕ
 one_if true = 1
 one_if false = 0
 
+-- what a separator tells of slots: of its own and those before it that one is written, and where its own depends on later ones, that its own is
+abbrev pub tells : Stands → Bool → Bool → Bool
+tells Always written before = written || before
+tells (IfLong slot) written before = written || before
+tells (IfLater slot later) written before = written
+
 -- what the unknown of a separator of so many bits tells
-abbrev pub told : SeparatorPosition → ℕ → Bool → Bool → Asks Held
-told position bits written before =
-    Is (held.Number ((if is_there position written before then 2 * bits else 0) + one_if (written || before)))
+abbrev pub told : SeparatorPosition → ℕ → Stands → Bool → Bool → Asks Held
+told position bits slot written before =
+    Is (held.Number ((if is_there position written before then 2 * bits else 0) + one_if (tells slot written before)))
 
 -- the same of one that has no writing, for this cause: where it doesn't stand, that is nothing to it
-abbrev pub told_or : SeparatorPosition → Bool → Bool → ℕ → Asks Held
-told_or position written before cause =
-    if is_there position written before then Fails cause else Is (held.Number (one_if (written || before)))
+abbrev pub told_or : SeparatorPosition → Stands → Bool → Bool → ℕ → Asks Held
+told_or position slot written before cause =
+    if is_there position written before then Fails cause else Is (held.Number (one_if (tells slot written before)))
 
 -- how long a separator of so many bits is
 abbrev pub separator : Book → SeparatorPosition → ℕ → Stands → Earlier → Asks Held
 separator book position bits slot before =
-    is_earlier book before (λ is_before. stands book slot (λ is_written. told position bits is_written is_before))
+    is_earlier book before (λ is_before. stands book slot (λ is_written. told position bits slot is_written is_before))

@@ -14,7 +14,7 @@ use Rattle.dfdl_cells.specs.Values.{Told, asked_number, asked_value}
 use Rattle.dfdl_cells.specs.declared.cell.Cell.{Cell}
 use Rattle.dfdl_cells.specs.declared.cell.Cell.TheVariants.{Waiting, Faulty, Given, Nil, Items, ValueLength, ContentLength, Reached, Boxed, Bits}
 use Rattle.dfdl_cells.specs.declared.piece.Piece.{Piece}
-use Rattle.dfdl_cells.specs.declared.writing.Writing.{Writing}
+use Rattle.dfdl_terms.specs.declared.writing.Writing.{Writing}
 
 -- a number, as what an unknown has
 abbrev pub is_number : ℕ → Asks Held

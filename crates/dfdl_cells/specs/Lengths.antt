@@ -24,7 +24,7 @@ use Rattle.dfdl_writings.specs.declared.fault.Unwritten.TheVariants as unwritten
 use Rattle.dfdl_writings.specs.declared.fault.Unwritten.TheVariants.{BinaryForm}
 use Rattle.dfdl_writings.specs.declared.form.Room.{Room}
 use Rattle.dfdl_writings.specs.declared.form.Room.TheVariants as room
-use Rattle.dfdl_writings.specs.declared.form.WritingForm.{WritingForm}
+use Rattle.dfdl_terms.specs.declared.writing.WritingForm.{WritingForm}
 use Rattle.dfdl_writings.specs.declared.form.Written.{Written}
 use Rattle.dfdl_cells.specs.Plans.{Form}
 use Rattle.dfdl_cells.specs.Values.{Told}

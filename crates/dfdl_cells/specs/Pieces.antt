@@ -30,7 +30,7 @@ use Rattle.dfdl_cells.specs.declared.piece.Piece.{Piece}
 use Rattle.dfdl_cells.specs.declared.piece.Piece.TheVariants as piece
 use Rattle.dfdl_cells.specs.declared.piece.Stands.{Stands}
 use Rattle.dfdl_cells.specs.declared.step.Place.{Place}
-use Rattle.dfdl_cells.specs.declared.writing.Writing.{Writing}
+use Rattle.dfdl_terms.specs.declared.writing.Writing.{Writing}
 
 -- the cause of a box that is passed by a skip or an alignment (11), and of a content that its box doesn't hold (6)
 abbrev pub passes_box : ℕ

@@ -8,7 +8,7 @@ use Rattle.dfdl_rows.specs.Components.{Schema}
 use Rattle.dfdl_rows.specs.declared.component.Component.{Component}
 use Rattle.dfdl_rows.specs.declared.component.Component.TheVariants.{Sequence, Choice, ComplexElement, SimpleElement, CalculatedElement, Hidden}
 use Rattle.dfdl_rows.specs.declared.component.LeafLength.{LeafLength}
-use Rattle.dfdl_cells.specs.declared.writing.Writing.{Writing}
+use Rattle.dfdl_terms.specs.declared.writing.Writing.{Writing}
 
 -- a schema as it is unparsed
 pub record Plan : Type 0 where

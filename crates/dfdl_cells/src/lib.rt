@@ -16,14 +16,13 @@ mod placing;
 pub mod step;
 #[cfg(test)]
 mod tests;
-pub mod writing;
 
 pub use asking::Stop;
 pub use book::{Book, NumberList};
 pub use cell::{Cell, CellList};
 pub use complex::{Complex, StepList};
 pub use dfdl_suspend::CellId;
+pub use dfdl_terms::Writing;
 pub use piece::{Bound, Earlier, Piece, SlotEnd, Stands};
 pub use placing::{bit_of, place_of};
 pub use step::{Mark, Place, Step};
-pub use writing::Writing;

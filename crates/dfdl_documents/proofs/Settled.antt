@@ -7,7 +7,7 @@ use Rattle.dfdl_markup.specs.Documents.{IsRefusedBy, IsTreeOf}
 use Rattle.dfdl_markup.specs.Trees.{Node}
 use Rattle.dfdl_report.specs.Causes.{document_number}
 use Rattle.dfdl_report.specs.declared.cause.DocCause.{DocCause}
-use Rattle.dfdl_report.specs.declared.cause.LimitCause.TheVariants.{Input, Window, Nodes, Text, Depth, Schema, Schemas, Rows}
+use Rattle.dfdl_report.specs.declared.cause.LimitCause.TheVariants.{Input, Window, Nodes, Text, Depth, Cells, Held, Schema, Schemas, Rows}
 use Rattle.dfdl_report.specs.declared.place.Place.{Place}
 use Rattle.dfdl_documents.specs.declared.fault.DocumentsFault.{DocumentsFault}
 use Rattle.dfdl_documents.specs.declared.fault.DocumentsFault.TheVariants as fault
@@ -197,6 +197,8 @@ module _ (no_tree : (bytes : List ℕ) (at n : ℕ) (nodes : List Node) → IsRe
     not_due files asked a (fault.Limit Nodes quantity) left u = u
     not_due files asked a (fault.Limit Text quantity) left u = u
     not_due files asked a (fault.Limit Depth quantity) left u = u
+    not_due files asked a (fault.Limit Cells quantity) left u = u
+    not_due files asked a (fault.Limit Held quantity) left u = u
     not_due files asked a (fault.Limit Rows quantity) left u = u
     not_due files asked a fault.OutOfMemory left u = u
 
@@ -215,6 +217,8 @@ module _ (no_tree : (bytes : List ℕ) (at n : ℕ) (nodes : List Node) → IsRe
     not_ended before after asked (fault.Limit Nodes quantity) b t right told = t
     not_ended before after asked (fault.Limit Text quantity) b t right told = t
     not_ended before after asked (fault.Limit Depth quantity) b t right told = t
+    not_ended before after asked (fault.Limit Cells quantity) b t right told = t
+    not_ended before after asked (fault.Limit Held quantity) b t right told = t
     not_ended before after asked (fault.Limit Rows quantity) b t right told = t
     not_ended before after asked fault.OutOfMemory b t right told = tt
 
@@ -265,6 +269,8 @@ module _ (no_tree : (bytes : List ℕ) (at n : ℕ) (nodes : List Node) → IsRe
       document_due before after asked cause place name (fault.Limit Nodes quantity) t u = absurd u
       document_due before after asked cause place name (fault.Limit Text quantity) t u = absurd u
       document_due before after asked cause place name (fault.Limit Depth quantity) t u = absurd u
+      document_due before after asked cause place name (fault.Limit Cells quantity) t u = absurd u
+      document_due before after asked cause place name (fault.Limit Held quantity) t u = absurd u
       document_due before after asked cause place name (fault.Limit Rows quantity) t u = absurd u
       document_due before after asked cause place name fault.OutOfMemory t u = absurd u
 
@@ -289,6 +295,8 @@ module _ (no_tree : (bytes : List ℕ) (at n : ℕ) (nodes : List Node) → IsRe
       length_due before after asked quantity (fault.Limit Nodes other) told t u = absurd u
       length_due before after asked quantity (fault.Limit Text other) told t u = absurd u
       length_due before after asked quantity (fault.Limit Depth other) told t u = absurd u
+      length_due before after asked quantity (fault.Limit Cells other) told t u = absurd u
+      length_due before after asked quantity (fault.Limit Held other) told t u = absurd u
       length_due before after asked quantity (fault.Limit Rows other) told t u = absurd u
       length_due before after asked quantity fault.OutOfMemory told t u = absurd u
 
@@ -310,6 +318,8 @@ module _ (no_tree : (bytes : List ℕ) (at n : ℕ) (nodes : List Node) → IsRe
       number_due before after asked quantity (fault.Limit Nodes other) told t u = absurd u
       number_due before after asked quantity (fault.Limit Text other) told t u = absurd u
       number_due before after asked quantity (fault.Limit Depth other) told t u = absurd u
+      number_due before after asked quantity (fault.Limit Cells other) told t u = absurd u
+      number_due before after asked quantity (fault.Limit Held other) told t u = absurd u
       number_due before after asked quantity (fault.Limit Rows other) told t u = absurd u
       number_due before after asked quantity fault.OutOfMemory told t u = absurd u
 
@@ -327,5 +337,7 @@ module _ (no_tree : (bytes : List ℕ) (at n : ℕ) (nodes : List Node) → IsRe
       as_due before after asked (fault.Limit Nodes quantity) due t u = absurd t
       as_due before after asked (fault.Limit Text quantity) due t u = absurd t
       as_due before after asked (fault.Limit Depth quantity) due t u = absurd t
+      as_due before after asked (fault.Limit Cells quantity) due t u = absurd t
+      as_due before after asked (fault.Limit Held quantity) due t u = absurd t
       as_due before after asked (fault.Limit Rows quantity) due t u = absurd t
       as_due before after asked fault.OutOfMemory due t u = inr tt

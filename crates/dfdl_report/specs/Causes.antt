@@ -7,7 +7,9 @@ use Rattle.dfdl_report.specs.declared.cause.ParseCause.TheVariants.{LengthOutOfR
 use Rattle.dfdl_report.specs.declared.cause.VariableCause.{VariableCause}
 use Rattle.dfdl_report.specs.declared.cause.VariableCause.TheVariants.{SetTwice, SetAfterRead}
 use Rattle.dfdl_report.specs.declared.cause.UnparseCause.{UnparseCause}
-use Rattle.dfdl_report.specs.declared.cause.UnparseCause.TheVariants.{WrongOccurrences}
+use Rattle.dfdl_report.specs.declared.cause.UnparseCause.TheVariants.{BinaryForm, PackedForm, TextForm, TooLong, NotInEncoding}
+use Rattle.dfdl_report.specs.declared.cause.UnparseCause.TheVariants.{PrefixUnfit, BooleanUnfit, WrongOccurrences, AlignmentImpossible, EscapeImpossible, HiddenWithoutValue, SuspensionCycle}
+use Rattle.dfdl_report.specs.declared.cause.UnparseCause.TheVariants as unparse
 use Rattle.dfdl_report.specs.declared.cause.SchemaCause.{SchemaCause}
 use Rattle.dfdl_report.specs.declared.cause.SchemaCause.TheVariants.{NameNotFound, GlobalTwice, OutsideSubset, ValueNotAllowed, Recursive, PropertyTwice, PropertyMissing}
 use Rattle.dfdl_report.specs.declared.cause.SchemaCause.TheVariants.{UnknownAnnotation, PropertyNotCarried, ExpressionNotAllowed, LiteralMalformed, EmptyDelimiter, TypeNotCarried, MaxLengthMissing, LengthKind}
@@ -21,7 +23,7 @@ use Rattle.dfdl_report.specs.declared.cause.DocCause.TheVariants.{UnknownReferen
 use Rattle.dfdl_report.specs.declared.cause.InfosetCause.{InfosetCause}
 use Rattle.dfdl_report.specs.declared.cause.InfosetCause.TheVariants.{NotJson, RootExpected, UnknownMember, ObjectExpected, ArrayExpected, StringExpected, NotAValue, NullNotAllowed}
 use Rattle.dfdl_report.specs.declared.cause.LimitCause.{LimitCause}
-use Rattle.dfdl_report.specs.declared.cause.LimitCause.TheVariants.{Input, Window, Nodes, Text, Depth, Schema, Schemas, Rows}
+use Rattle.dfdl_report.specs.declared.cause.LimitCause.TheVariants.{Input, Window, Nodes, Text, Depth, Cells, Held, Schema, Schemas, Rows}
 
 -- processing errors, P
 abbrev pub parse_number : ParseCause → ℕ
@@ -79,11 +81,37 @@ variable_text SetAfterRead = codes "variable set after it was read"
 
 -- unparse errors, U
 abbrev pub unparse_number : UnparseCause → ℕ
+unparse_number BinaryForm = 1
+unparse_number PackedForm = 2
+unparse_number TextForm = 3
+unparse_number TooLong = 4
+unparse_number NotInEncoding = 5
+unparse_number unparse.LengthOutOfRange = 6
+unparse_number PrefixUnfit = 7
+unparse_number (unparse.ExpressionFault fault) = 8
+unparse_number BooleanUnfit = 9
 unparse_number WrongOccurrences = 10
+unparse_number AlignmentImpossible = 11
+unparse_number EscapeImpossible = 12
+unparse_number HiddenWithoutValue = 13
+unparse_number SuspensionCycle = 14
 
 -- what an unparse error is told as
 abbrev pub unparse_text : UnparseCause → List ℕ
+unparse_text BinaryForm = codes "value does not fit its binary form"
+unparse_text PackedForm = codes "value does not fit its packed form"
+unparse_text TextForm = codes "value does not fit its text form"
+unparse_text TooLong = codes "value too long"
+unparse_text NotInEncoding = codes "character not in the encoding"
+unparse_text unparse.LengthOutOfRange = codes "length out of range"
+unparse_text PrefixUnfit = codes "prefix does not fit"
+unparse_text (unparse.ExpressionFault fault) = codes "expression fault"
+unparse_text BooleanUnfit = codes "boolean does not fit"
 unparse_text WrongOccurrences = codes "wrong number of occurrences"
+unparse_text AlignmentImpossible = codes "alignment impossible"
+unparse_text EscapeImpossible = codes "escape impossible"
+unparse_text HiddenWithoutValue = codes "hidden element without a value"
+unparse_text SuspensionCycle = codes "suspension cycle"
 
 -- refusals of schemas, C
 abbrev pub schema_number : SchemaCause → ℕ
@@ -234,6 +262,8 @@ limit_number Window = 2
 limit_number Nodes = 3
 limit_number Text = 4
 limit_number Depth = 5
+limit_number Cells = 6
+limit_number Held = 7
 limit_number Schema = 8
 limit_number Schemas = 9
 limit_number Rows = 10

@@ -45,6 +45,12 @@ abbrev pub unparse_line : UnparseCause → List ℕ → List ℕ
 unparse_line cause path =
     codes "error U" ++ (decimal (unparse_number cause) ++ (codes " in " ++ (path ++ (codes ": " ++ ended (unparse_text cause)))))
 
+-- the same of an expression that has no value for the reason of a number
+abbrev pub unparse_fault_line : UnparseCause → List ℕ → ℕ → List ℕ
+unparse_fault_line cause path fault =
+    codes "error U" ++ (decimal (unparse_number cause) ++ (codes " in " ++ (path ++ (codes ": " ++ (unparse_text cause
+    ++ (codes " (E" ++ (decimal fault ++ codes ")\n")))))))
+
 -- a refusal of a schema, at this byte of the document of this name
 abbrev pub schema_line : SchemaCause → List ℕ → ℕ → List ℕ
 schema_line cause document at =

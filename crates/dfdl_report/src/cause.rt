@@ -60,8 +60,34 @@ pub enum VariableCause {
 /// Why unparsing failed: the numbers U of unparse errors ('DFDL Processing Introduction').
 #[derive(Debug, Clone, Copy, PartialEq, Eq)]
 pub enum UnparseCause {
+    /// A value that the bits of its binary form can't hold.
+    BinaryForm,
+    /// A value that the nibbles of its packed form can't hold.
+    PackedForm,
+    /// A number that its text form can't tell, or that is longer than its box.
+    TextForm,
+    /// A string, a hexBinary or a literal of nil that is longer than its box.
+    TooLong,
+    /// A character that the encoding lacks.
+    NotInEncoding,
+    /// A content that is longer than its box, or a box that is as long as it can't be.
+    LengthOutOfRange,
+    /// A length that its prefix can't tell.
+    PrefixUnfit,
+    /// An expression has no value, for the reason of this number.
+    ExpressionFault { fault: u8 },
+    /// A boolean that its box or its field can't hold.
+    BooleanUnfit,
     /// An element occurs fewer or more times than its bounds allow.
     WrongOccurrences,
+    /// Fill passes the end of the box around it.
+    AlignmentImpossible,
+    /// A text that its escape scheme can't write.
+    EscapeImpossible,
+    /// An element of a hidden group that has neither a calculated value nor a default.
+    HiddenWithoutValue,
+    /// Values that wait for one another.
+    SuspensionCycle,
 }
 
 /// Why a schema is refused: the numbers C of schema definition errors ('DFDL Schema Component Model').
@@ -217,6 +243,10 @@ pub enum LimitCause {
     Text,
     /// Elements of the schema are nested deeper than the limit.
     Depth,
+    /// A document that is unparsed has more unknowns than the limit.
+    Cells,
+    /// More bytes of output wait for earlier ones than the limit.
+    Held,
     /// A schema file has more bytes than the limit.
     Schema,
     /// The schema has more documents than the limit.
@@ -307,7 +337,20 @@ impl UnparseCause {
         ensures { result ≡ unparse_number self.now }
     {
         match self {
+            UnparseCause::BinaryForm => 1,
+            UnparseCause::PackedForm => 2,
+            UnparseCause::TextForm => 3,
+            UnparseCause::TooLong => 4,
+            UnparseCause::NotInEncoding => 5,
+            UnparseCause::LengthOutOfRange => 6,
+            UnparseCause::PrefixUnfit => 7,
+            UnparseCause::ExpressionFault { .. } => 8,
+            UnparseCause::BooleanUnfit => 9,
             UnparseCause::WrongOccurrences => 10,
+            UnparseCause::AlignmentImpossible => 11,
+            UnparseCause::EscapeImpossible => 12,
+            UnparseCause::HiddenWithoutValue => 13,
+            UnparseCause::SuspensionCycle => 14,
         }
     }
 
@@ -315,7 +358,20 @@ impl UnparseCause {
         ensures { result.now ≡ unparse_text self.now }
     {
         match self {
+            UnparseCause::BinaryForm => "value does not fit its binary form",
+            UnparseCause::PackedForm => "value does not fit its packed form",
+            UnparseCause::TextForm => "value does not fit its text form",
+            UnparseCause::TooLong => "value too long",
+            UnparseCause::NotInEncoding => "character not in the encoding",
+            UnparseCause::LengthOutOfRange => "length out of range",
+            UnparseCause::PrefixUnfit => "prefix does not fit",
+            UnparseCause::ExpressionFault { .. } => "expression fault",
+            UnparseCause::BooleanUnfit => "boolean does not fit",
             UnparseCause::WrongOccurrences => "wrong number of occurrences",
+            UnparseCause::AlignmentImpossible => "alignment impossible",
+            UnparseCause::EscapeImpossible => "escape impossible",
+            UnparseCause::HiddenWithoutValue => "hidden element without a value",
+            UnparseCause::SuspensionCycle => "suspension cycle",
         }
     }
 }
@@ -506,6 +562,8 @@ impl LimitCause {
             LimitCause::Nodes => 3,
             LimitCause::Text => 4,
             LimitCause::Depth => 5,
+            LimitCause::Cells => 6,
+            LimitCause::Held => 7,
             LimitCause::Schema => 8,
             LimitCause::Schemas => 9,
             LimitCause::Rows => 10,

@@ -2,7 +2,7 @@
 ghost use Rattle.std.specs.Prelude.{◌≡◌, IfOk, string_bytes};
 ghost use Rattle.dfdl_report.specs.Lines.{document_line};
 ghost use Rattle.dfdl_report.specs.Lines.{files_line, infoset_line, left_over_line, limit_line, memory_line};
-ghost use Rattle.dfdl_report.specs.Lines.{fault_line, parse_line, schema_line, sink_line, source_line, test_line, unparse_line, usage_line};
+ghost use Rattle.dfdl_report.specs.Lines.{fault_line, parse_line, schema_line, sink_line, source_line, test_line, unparse_fault_line, unparse_line, usage_line};
 ghost use Rattle.dfdl_report.specs.Lines.{variable_line};
 
 use crate::cause::{
@@ -75,6 +75,20 @@ pub fn of_unparse(alloc: Global, cause: UnparseCause, path: &str) -> Result<Stri
     let number = cause.number();
     let text = cause.text();
     format!(in alloc; "error U{number} in {path}: {text}\n")
+}
+
+/// An expression in the element of this path that has no value when unparsing, for the reason of a number.
+pub fn of_unparse_fault(
+    alloc: Global,
+    cause: UnparseCause,
+    path: &str,
+    fault: u8,
+) -> Result<String, AllocError>
+    ensures { IfOk result (λ line. string_bytes line ≡ unparse_fault_line cause path.now fault) }
+{
+    let number = cause.number();
+    let text = cause.text();
+    format!(in alloc; "error U{number} in {path}: {text} (E{fault})\n")
 }
 
 /// A refusal of a schema, at this byte of the document of this name.

@@ -32,6 +32,9 @@ fn lines_are_told(rt: HostRuntime) -> Result<(), Fail> {
         told.as_str(),
         "error U10 in /r/b: wrong number of occurrences\n"
     );
+    let cause = UnparseCause::ExpressionFault { fault: 5 };
+    let told = line::of_unparse_fault(alloc, cause, "/r/y", 5)?;
+    assert_eq!(rt; told.as_str(), "error U8 in /r/y: expression fault (E5)\n");
     let told = line::of_schema(alloc, SchemaCause::OutsideSubset, "s.xsd", 17)?;
     assert_eq!(rt;
         told.as_str(),

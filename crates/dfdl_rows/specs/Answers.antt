@@ -2,7 +2,7 @@
 -- first, then the first refusal, then the number of rows.
 use Rattle.std.specs.Prelude.{◌≡◌, ℕ, ◌<◌, ◌≤◌, ◌-◌, List, length, Option, None, Some, option_map, slice_get}
 use Rattle.dfdl_report.specs.declared.cause.LimitCause.{LimitCause}
-use Rattle.dfdl_report.specs.declared.cause.LimitCause.TheVariants.{Input, Window, Nodes, Text, Depth, Schema as SchemaSize, Schemas, Rows}
+use Rattle.dfdl_report.specs.declared.cause.LimitCause.TheVariants.{Input, Window, Nodes, Text, Depth, Cells, Held, Schema as SchemaSize, Schemas, Rows}
 use Rattle.dfdl_terms.specs.declared.row.Row.{Row}
 use Rattle.dfdl_terms.specs.declared.row.Row.TheVariants.{Elem}
 use Rattle.dfdl_rows.specs.Components.{Schema, no_trials}
@@ -48,6 +48,8 @@ IsLimitOf a Window quantity = ⊥
 IsLimitOf a Nodes quantity = ⊥
 IsLimitOf a Text quantity = ⊥
 IsLimitOf a Depth quantity = (quantity ≡ a.depth) × (a.depth < depth_of a.schema a.root)
+IsLimitOf a Cells quantity = ⊥
+IsLimitOf a Held quantity = ⊥
 IsLimitOf a SchemaSize quantity = ⊥
 IsLimitOf a Schemas quantity = ⊥
 IsLimitOf a Rows quantity = (quantity ≡ a.rows) × IsFlat a × IsSound a × (a.rows < size_of a.schema a.root)

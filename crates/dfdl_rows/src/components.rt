@@ -87,7 +87,7 @@ impl Components {
     }
 
     /// What a component is.
-    pub(crate) fn component(&self, number: u32) -> &Component
+    pub fn component(&self, number: u32) -> &Component
         requires { number < length self.now.uses }
         ensures component { result.now ≡ component_at self.now.components number }
         ensures parts { CanHave result.now (uses_of self.now.uses number) }
@@ -96,7 +96,7 @@ impl Components {
     }
 
     /// The parts of a component.
-    pub(crate) fn parts(&self, number: u32) -> &[u32]
+    pub fn parts(&self, number: u32) -> &[u32]
         requires { number < length self.now.uses }
         ensures parts { result.now ≡ uses_of self.now.uses number }
         ensures within { All (λ p. p < length self.now.uses) result.now }

@@ -73,7 +73,7 @@ fn size_at(component: &Component, slots: &[Times], parts: &[u32], known: &[u64])
 }
 
 /// The number of each component's rows, as far as 64 bits count.
-pub(crate) fn sizes(alloc: Global, components: &Components) -> Result<Vec<u64>, AllocError>
+pub fn sizes(alloc: Global, components: &Components) -> Result<Vec<u64>, AllocError>
     ensures counted { IfOk result (λ made. length made.items ≡ length components.now.uses) }
     ensures known { IfOk result (λ made. (c : ℕ) → c < length components.now.uses
         → get_or made.items c 0 ≡ saturated (sizes.size_of components.now c)) }

@@ -10,7 +10,7 @@ use Rattle.dfdl_edge.specs.Source.{SourceSeen}
 use Rattle.dfdl_edge.specs.Whole.{IsUsedUp}
 use Rattle.dfdl_report.specs.Lines.{memory_line, variable_line}
 use Rattle.dfdl_report.specs.declared.cause.VariableCause.{VariableCause}
-use Rattle.dfdl_report.specs.declared.cause.LimitCause.TheVariants.{Input, Window, Nodes, Text, Depth, Schema, Schemas, Rows}
+use Rattle.dfdl_report.specs.declared.cause.LimitCause.TheVariants.{Input, Window, Nodes, Text, Depth, Cells, Held, Schema, Schemas, Rows}
 use Rattle.dfdl_documents.specs.Faults.{IsFailed}
 use Rattle.dfdl_compile.specs.Settling.{Free}
 use Rattle.dfdl_breaches.specs.Builds.{PatternsSeen}
@@ -132,6 +132,8 @@ unwritten_stop (Limit Text quantity) line = cc
 unwritten_stop (Limit Depth quantity) line = cc
 unwritten_stop (Limit Schema quantity) line = cc
 unwritten_stop (Limit Schemas quantity) line = cc
+unwritten_stop (Limit Cells quantity) line = cc
+unwritten_stop (Limit Held quantity) line = cc
 unwritten_stop (Limit Rows quantity) line = cc
 unwritten_stop OutOfMemory line = cc
 

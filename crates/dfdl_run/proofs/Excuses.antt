@@ -1,7 +1,7 @@
 -- Which statuses come before limits, and before what data comes to.
 use Rattle.std.proofs.Common.{ℕ, ◌+◌, ◌*◌, nat_le, true, false, IsTrue, List, length, Err, refl}
 use Rattle.dfdl_report.specs.declared.cause.LimitCause.{LimitCause}
-use Rattle.dfdl_report.specs.declared.cause.LimitCause.TheVariants.{Input, Window, Nodes, Text, Depth, Schema, Schemas, Rows}
+use Rattle.dfdl_report.specs.declared.cause.LimitCause.TheVariants.{Input, Window, Nodes, Text, Depth, Cells, Held, Schema, Schemas, Rows}
 use Rattle.dfdl_terms.specs.Rows.{Table}
 use Rattle.dfdl_grammar.specs.declared.end.End.{End as DocumentEnd}
 use Rattle.dfdl_grammar.specs.declared.end.End.TheVariants.{Done as IsDone, Failed as Fails, Stopped}
@@ -26,6 +26,8 @@ limit_excused Text quantity = refl
 limit_excused Depth quantity = refl
 limit_excused Schema quantity = refl
 limit_excused Schemas quantity = refl
+limit_excused Cells quantity = refl
+limit_excused Held quantity = refl
 limit_excused Rows quantity = refl
 
 -- and so does a failed load
@@ -37,6 +39,8 @@ limit_files Text quantity = refl
 limit_files Depth quantity = refl
 limit_files Schema quantity = refl
 limit_files Schemas quantity = refl
+limit_files Cells quantity = refl
+limit_files Held quantity = refl
 limit_files Rows quantity = refl
 
 -- a failed read, a failed load and want of memory come before this end

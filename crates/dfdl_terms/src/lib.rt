@@ -19,6 +19,7 @@ pub mod statement;
 pub mod terms;
 pub mod text;
 pub mod value_list;
+pub mod writing;
 
 pub use arrays::Items;
 pub use delimiters::{Delimiter, Delimiters};
@@ -41,3 +42,4 @@ pub use text::{
     TextContent, TextForm, TextSize,
 };
 pub use value_list::ValueList;
+pub use writing::{Writing, WritingForm};

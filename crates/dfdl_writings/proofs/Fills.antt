@@ -27,7 +27,7 @@ use Rattle.dfdl_text_string.specs.Padding.{missing_before}
 use Rattle.dfdl_writings.specs.declared.fault.Unwritten.{Unwritten}
 use Rattle.dfdl_writings.specs.declared.fault.Unwritten.TheVariants.{TooLong}
 use Rattle.dfdl_writings.specs.declared.form.Room.TheVariants.{Bits}
-use Rattle.dfdl_writings.specs.declared.form.WritingForm.{WritingForm}
+use Rattle.dfdl_terms.specs.declared.writing.WritingForm.{WritingForm}
 use Rattle.dfdl_writings.specs.declared.form.Written.{Written}
 use Rattle.dfdl_writings.specs.Contents.{content_of, held, laid, laid_bytes}
 use Rattle.dfdl_writings.specs.Cuts.{cause_of_length, cut_to, is_cut, kept, place_for}

@@ -13,7 +13,7 @@ use Rattle.dfdl_writings.specs.declared.fault.Unwritten.{Unwritten}
 use Rattle.dfdl_writings.specs.declared.fault.Unwritten.TheVariants.{TooLong, NotInEncoding}
 use Rattle.dfdl_writings.specs.declared.form.Room.{Room}
 use Rattle.dfdl_writings.specs.declared.form.Room.TheVariants.{Bits, Characters, Open, Delimited}
-use Rattle.dfdl_writings.specs.declared.form.WritingForm.{WritingForm}
+use Rattle.dfdl_terms.specs.declared.writing.WritingForm.{WritingForm}
 use Rattle.dfdl_writings.specs.declared.form.Written.{Written}
 use Rattle.dfdl_writings.specs.Contents.{bits_of}
 use Rattle.dfdl_writings.specs.Literals.{first_literal, literal_bytes, literal_count}

@@ -19,7 +19,7 @@ use Rattle.dfdl_writings.specs.declared.fault.Unwritten.{Unwritten}
 use Rattle.dfdl_writings.specs.declared.fault.Unwritten.TheVariants.{Prefix as InPrefix}
 use Rattle.dfdl_writings.specs.declared.form.Room.{Room}
 use Rattle.dfdl_writings.specs.declared.form.Room.TheVariants.{Bits, Characters, Open}
-use Rattle.dfdl_writings.specs.declared.form.WritingForm.{WritingForm}
+use Rattle.dfdl_terms.specs.declared.writing.WritingForm.{WritingForm}
 use Rattle.dfdl_writings.specs.declared.form.Written.{Written}
 use Rattle.dfdl_writings.specs.Contents.{content}
 use Rattle.dfdl_writings.specs.Fields.{integer, packed}

@@ -15,11 +15,13 @@ ghost use Rattle.dfdl_writings.specs.Rooms.{IsRoom};
 ghost use Rattle.dfdl_writings.specs.Told.{IfTold};
 
 use crate::fault::WritingFault;
-use crate::form::{Room, WritingForm, Written};
+use crate::form::{Room, Written};
 use crate::{binary, characters, contents, delimiter, fields, nils, octets, prefixes};
 use dfdl_delims::OpenLists;
 use dfdl_forms::{BitTruthForm, CharList, Encoding, IntForm, PackedForm, PadForm};
-use dfdl_terms::{Delimiters, NilForm, NilOctets, OctetForm, Primitive, TextContent, TextForm};
+use dfdl_terms::{
+    Delimiters, NilForm, NilOctets, OctetForm, Primitive, TextContent, TextForm, WritingForm,
+};
 use dfdl_value::Value;
 use std::alloc::Global;
 

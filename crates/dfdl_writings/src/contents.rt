@@ -15,14 +15,14 @@ use crate::characters::characters_of;
 use crate::cuts::kept;
 use crate::encoding::encoded;
 use crate::fault::Unwritten;
-use crate::form::{Room, WritingForm, Written};
+use crate::form::{Room, Written};
 use crate::octets::bits_in;
 use crate::paddings::padded;
 use dfdl_delims::OpenLists;
 use dfdl_escapes::escape;
 use dfdl_escapes::refusal::Refusal;
 use dfdl_forms::{CharList, Encoding, EscapeKind, EscapeScheme};
-use dfdl_terms::{TextForm, TextSize};
+use dfdl_terms::{TextForm, TextSize, WritingForm};
 use dfdl_value::Value;
 use std::alloc::{AllocError, Global};
 

@@ -3,7 +3,6 @@ ghost use Rattle.std.specs.Prelude.{◌≡◌};
 ghost use Rattle.dfdl_terms.specs.Rows.{IsTextSize};
 ghost use Rattle.dfdl_writings.specs.Rooms.{room_of, IsRoom};
 
-use dfdl_forms::{CharList, EscapeScheme};
 use dfdl_terms::TextSize;
 use dfdl_value::ByteValue;
 
@@ -30,17 +29,6 @@ pub fn room_of(size: TextSize) -> Room
         TextSize::Characters(count) => Room::Characters(count),
         TextSize::Delimited(_) => Room::Delimited,
     }
-}
-
-/// What the writing of a text depends on, and its reading doesn't ('Simple Types').
-#[derive(Debug, Drop)]
-pub struct WritingForm {
-    /// The least number of characters of a content without a box (minLength of a string, textOutputMinLength of other text).
-    pub least: u64,
-    /// What `%NL;` is written as (outputNewLine).
-    pub new_line: CharList,
-    /// The escape scheme; its kind is `Absent` where there is none.
-    pub scheme: EscapeScheme,
 }
 
 /// What a value is written as: so many bits, from bit 0 of the bytes on, and behind them so many bits of fill.

@@ -7,7 +7,7 @@ ghost use Rattle.dfdl_terms.specs.declared.row.Primitive.{Primitive};
 ghost use Rattle.dfdl_terms.specs.declared.text.NilForm.{NilForm};
 ghost use Rattle.dfdl_terms.specs.declared.text.TextForm.{TextForm};
 ghost use Rattle.dfdl_writings.specs.declared.form.Room.TheVariants.{Bits};
-ghost use Rattle.dfdl_writings.specs.declared.form.WritingForm.{WritingForm};
+ghost use Rattle.dfdl_terms.specs.declared.writing.WritingForm.{WritingForm};
 ghost use Rattle.dfdl_writings.specs.declared.form.Written.{Written};
 ghost use Rattle.dfdl_writings.specs.Binary.{binary, box_bits};
 ghost use Rattle.dfdl_writings.specs.Contents.{content};

@@ -34,6 +34,7 @@ pub use calls::{
     binary_bits, binary_of, characters_of, content_of, delimiter_of, integer_of, nil_bits,
     nil_octets_of, nil_of, octets_of, packed_of, prefix_of, truth_of, value_bits,
 };
+pub use dfdl_terms::WritingForm;
 pub use fault::{Unwritten, WritingFault};
-pub use form::{Room, WritingForm, Written, room_of};
+pub use form::{Room, Written, room_of};
 pub use prefixes::units_of;

@@ -7,12 +7,12 @@ ghost use Rattle.dfdl_writings.specs.Paddings.{repeated};
 ghost use Rattle.dfdl_writings.specs.Rooms.{IsRoom};
 
 use crate::fault::Unwritten;
-use crate::form::{Room, WritingForm, Written};
+use crate::form::{Room, Written};
 use crate::literal::{first_literal, literal_bytes, literal_count};
 use crate::octets::bits_in;
 use crate::paddings::{character_bytes, filled, padded, put_repeated};
 use dfdl_forms::{Encoding, Justify, Literals, PadForm};
-use dfdl_terms::{NilForm, NilOctets, NilTexts};
+use dfdl_terms::{NilForm, NilOctets, NilTexts, WritingForm};
 use dfdl_value::ByteValue;
 use std::alloc::{AllocError, Global};
 

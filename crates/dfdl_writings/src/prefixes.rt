@@ -10,9 +10,9 @@ ghost use Rattle.dfdl_writings.specs.Prefixes.{in_prefix, number, prefix, prefix
 use crate::contents::unended;
 use crate::fault::Unwritten;
 use crate::fields::{integer, packed};
-use crate::form::{WritingForm, Written};
+use crate::form::Written;
 use dfdl_forms::Simple;
-use dfdl_terms::{LengthUnit, Prefix, Primitive, TextContent};
+use dfdl_terms::{LengthUnit, Prefix, Primitive, TextContent, WritingForm};
 use dfdl_value::{Form, Value};
 use std::alloc::{AllocError, Global};
 

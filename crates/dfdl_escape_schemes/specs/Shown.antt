@@ -1,6 +1,6 @@
 -- Mirror for the prover: what properties are seen as.
 use Rattle.std.specs.Prelude.{option_copied}
-use Rattle.dfdl_escape_schemes.specs.Marks.{SchemeTold}
+use Rattle.dfdl_escape_schemes.specs.Schemes.{SchemeTold}
 use Rattle.dfdl_escape_schemes.specs.declared.reading.SchemeProperties.{SchemeProperties}
 
 -- properties with texts that are lent

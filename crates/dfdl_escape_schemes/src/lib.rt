@@ -1,7 +1,7 @@
-//! What the properties of an escape scheme come to: its kind and its characters, or that it is malformed.
+//! What the properties of an escape scheme come to: the scheme, or that it is malformed.
 //!
-//! `escape_marks` answers by `specs/Marks.antt`, from the texts of the properties as they are written. `NamedScheme` is
-//! what a component names as its scheme. It serves 'Simple Types', on escape schemes.
+//! `escape_scheme` answers by `specs/Schemes.antt`, from the texts of the properties as they are written. `NamedScheme` is
+//! what a component names as its scheme, and `EscapeMarks` what reading asks of it. It serves 'Simple Types', on escape schemes.
 #![tactic(auto)]
 
 mod marks;
@@ -10,4 +10,4 @@ mod reading;
 
 pub use marks::EscapeMarks;
 pub use named::NamedScheme;
-pub use reading::{SchemeProperties, escape_marks};
+pub use reading::{SchemeProperties, escape_scheme};

@@ -1,10 +1,10 @@
-// The kind and the characters of an escape scheme.
+// What reading asks of an escape scheme.
 ghost use Rattle.std.specs.Prelude.{◌≡◌};
-ghost use Rattle.dfdl_escape_schemes.specs.Marks.{no_marks};
+ghost use Rattle.dfdl_escape_schemes.specs.Schemes.{marks_of, no_marks};
 
-use dfdl_forms::EscapeKind;
+use dfdl_forms::{EscapeKind, EscapeScheme};
 
-/// The kind and the characters of an escape scheme ('Simple Types', on escape schemes).
+/// What reading asks of an escape scheme: its kind and the characters that it takes off ('Simple Types', on escape schemes).
 #[derive(Debug, Clone, Copy, PartialEq, Eq)]
 pub struct EscapeMarks {
     pub kind: EscapeKind,
@@ -29,6 +29,19 @@ impl EscapeMarks {
             escape_escape: None,
             start: None,
             end: None,
+        }
+    }
+
+    /// Those of a scheme.
+    pub(crate) fn of(scheme: &EscapeScheme) -> EscapeMarks
+        ensures { result ≡ marks_of scheme.now }
+    {
+        EscapeMarks {
+            kind: scheme.kind,
+            escape: scheme.escape,
+            escape_escape: scheme.escape_escape,
+            start: scheme.start,
+            end: scheme.end,
         }
     }
 }

@@ -1,13 +1,11 @@
-// The marks of an escape scheme by its properties.
-ghost use Rattle.std.specs.Prelude.{◌≡◌, IfOk, option_copied, true};
-ghost use Rattle.std.specs.List.{list_all};
+// An escape scheme by its properties.
+ghost use Rattle.std.specs.Prelude.{◌≡◌, IfOk, option_and_then, option_copied, true};
 ghost use Rattle.std.specs.Str.{chars};
 ghost use Rattle.dfdl_literals.specs.Readings.{literals_reading};
-ghost use Rattle.dfdl_escape_schemes.specs.Marks as spec;
+ghost use Rattle.dfdl_escape_schemes.specs.Schemes as spec;
 ghost use Rattle.dfdl_escape_schemes.specs.Shown.{told_of};
 
-use crate::marks::EscapeMarks;
-use dfdl_forms::{EscapeKind, Literals, Piece};
+use dfdl_forms::{CharList, EscapeKind, EscapeScheme, Literals, Piece};
 use dfdl_literals::{LiteralFault, PadCharacter, pad_character, read_literals};
 use dfdl_scope::{is_expression, literal};
 use std::alloc::{AllocError, Global};
@@ -92,56 +90,58 @@ fn is_character_or_none(text: Option<&str>) -> bool
     }
 }
 
-// Whether a literal is one character.
-fn is_single(pieces: &[Piece]) -> bool
-    ensures { result ≡ spec.is_single pieces.now }
+// The character that a literal is, if it is one.
+fn single(pieces: &[Piece]) -> Option<char>
+    ensures { result ≡ spec.single pieces.now }
 {
     match pieces {
-        [Piece::Char(_)] => true,
-        _ => false,
+        [Piece::Char(c)] => Some(*c),
+        _ => None,
     }
 }
 
-// Whether each literal is one character.
-fn are_all_single(literals: &Literals) -> bool
-    ensures { result ≡ list_all spec.is_single literals.now }
+// The characters that literals are, if each of them is one.
+fn singles(alloc: Global, literals: &Literals) -> Result<Option<CharList>, AllocError>
+    ensures { IfOk result (λ list. list ≡ spec.singles literals.now) }
 {
+    let mut characters = Vec::new(alloc);
     for at in 0..literals.len() {
-        if !is_single(literals.pieces(at)) {
-            return false;
-        }
+        let Some(c) = single(literals.pieces(at)) else {
+            return Ok(None);
+        };
+        characters.push(c)?;
     }
-    true
+    Ok(Some(CharList::new(characters)))
 }
 
-// Whether a text is literals, each of one character.
-fn are_singles(alloc: Global, text: &str) -> Result<bool, AllocError>
-    ensures { IfOk result (λ are. are ≡ spec.are_singles (literals_reading true (chars text.now))) }
+// The characters that a text lists, if it is literals of one character each.
+fn characters_by(alloc: Global, text: &str) -> Result<Option<CharList>, AllocError>
+    ensures { IfOk result (λ list. list ≡ option_and_then spec.singles (literals_reading true (chars text.now))) }
 {
     match read_literals(alloc, text, true) {
-        Ok(literals) => Ok(are_all_single(&literals)),
-        Err(LiteralFault::Malformed { .. }) => Ok(false),
+        Ok(literals) => singles(alloc, &literals),
+        Err(LiteralFault::Malformed { .. }) => Ok(None),
         Err(_) => Err(AllocError),
     }
 }
 
-// Whether a text is a list of single characters.
-fn is_list(alloc: Global, text: &str) -> Result<bool, AllocError>
-    ensures { IfOk result (λ is. is ≡ spec.is_list text.now) }
+// The characters that a text lists, if it is such a list.
+fn characters_in(alloc: Global, text: &str) -> Result<Option<CharList>, AllocError>
+    ensures { IfOk result (λ list. list ≡ spec.characters_in text.now) }
 {
     if is_expression(text) {
-        return Ok(false);
+        return Ok(None);
     }
-    are_singles(alloc, literal(text))
+    characters_by(alloc, literal(text))
 }
 
-// Whether what is told, if anything is, is such a list.
-fn is_list_or_none(alloc: Global, text: Option<&str>) -> Result<bool, AllocError>
-    ensures { IfOk result (λ is. is ≡ spec.is_list_or_none (option_copied text.entry)) }
+// The characters that are told, if what is told is such a list.
+fn characters_told(alloc: Global, text: Option<&str>) -> Result<Option<CharList>, AllocError>
+    ensures { IfOk result (λ list. list ≡ spec.characters_told (option_copied text.entry)) }
 {
     match text {
-        Some(text) => is_list(alloc, text),
-        None => Ok(true),
+        Some(text) => characters_in(alloc, text),
+        None => Ok(Some(CharList::new(Vec::new(alloc)))),
     }
 }
 
@@ -155,76 +155,95 @@ fn is_generation_or_none(text: Option<&str>) -> bool
     }
 }
 
-// Whether each property that is told has a value that it can have.
-fn are_values(alloc: Global, properties: &SchemeProperties<'_>) -> Result<bool, AllocError>
-    ensures { IfOk result (λ are. are ≡ spec.are_values (told_of properties.now)) }
+// Whether a block is written also where none is needed.
+fn is_always(text: Option<&str>) -> bool
+    ensures { result ≡ spec.is_always (option_copied text.entry) }
 {
-    if !is_character_or_none(properties.escape) || !is_character_or_none(properties.escape_escape) {
-        return Ok(false);
+    match text {
+        Some(text) => text == "always",
+        None => false,
     }
-    if !is_character_or_none(properties.start) || !is_character_or_none(properties.end) {
-        return Ok(false);
-    }
-    if !is_list_or_none(alloc, properties.extra)? {
-        return Ok(false);
-    }
-    Ok(is_generation_or_none(properties.generation))
 }
 
-// A scheme of this kind with the characters that are told.
-fn marks_with(properties: &SchemeProperties<'_>, kind: EscapeKind) -> EscapeMarks
-    ensures { result ≡ spec.marks_with (told_of properties.now) kind }
+// Whether each property besides the list of characters that is told has a value that it can have.
+fn are_values(properties: &SchemeProperties<'_>) -> bool
+    ensures { result ≡ spec.are_values (told_of properties.now) }
 {
-    EscapeMarks {
+    is_character_or_none(properties.escape)
+        && is_character_or_none(properties.escape_escape)
+        && is_character_or_none(properties.start)
+        && is_character_or_none(properties.end)
+        && is_generation_or_none(properties.generation)
+}
+
+// A scheme of this kind with the characters that are told, and with these that are escaped too.
+fn scheme_with(properties: &SchemeProperties<'_>, kind: EscapeKind, extra: CharList) -> EscapeScheme
+    ensures { result ≡ spec.scheme_with (told_of properties.now) kind extra }
+{
+    EscapeScheme {
         kind,
         escape: character_told(properties.escape),
         escape_escape: character_told(properties.escape_escape),
         start: character_told(properties.start),
         end: character_told(properties.end),
+        extra,
+        always: is_always(properties.generation),
     }
 }
 
 // Whether the characters that a kind needs are there.
-fn has_needed(kind: EscapeKind, marks: EscapeMarks) -> bool
-    ensures { result ≡ spec.has_needed kind marks }
+fn has_needed(kind: EscapeKind, properties: &SchemeProperties<'_>) -> bool
+    ensures { result ≡ spec.has_needed kind (told_of properties.now) }
 {
     match kind {
         EscapeKind::Absent => true,
-        EscapeKind::Character => marks.escape.is_some(),
-        EscapeKind::Block => marks.start.is_some() && marks.end.is_some(),
+        EscapeKind::Character => character_told(properties.escape).is_some(),
+        EscapeKind::Block => {
+            character_told(properties.start).is_some() && character_told(properties.end).is_some()
+        }
+    }
+}
+
+// A scheme of this kind, with these characters that are escaped too, if the other properties make one.
+fn scheme_by(
+    properties: &SchemeProperties<'_>,
+    kind: EscapeKind,
+    extra: CharList,
+) -> Option<EscapeScheme>
+    ensures { result ≡ spec.scheme_by (told_of properties.now) kind extra }
+{
+    if are_values(properties) && has_needed(kind, properties) {
+        Some(scheme_with(properties, kind, extra))
+    } else {
+        None
     }
 }
 
 // A scheme of this kind, if its properties make one.
-fn marks_by(
+fn scheme_of_kind(
     alloc: Global,
     properties: &SchemeProperties<'_>,
     kind: EscapeKind,
-) -> Result<Option<EscapeMarks>, AllocError>
-    ensures { IfOk result (λ marks. marks ≡ spec.marks_by (told_of properties.now) kind) }
+) -> Result<Option<EscapeScheme>, AllocError>
+    ensures { IfOk result (λ scheme. scheme ≡ spec.scheme_of_kind (told_of properties.now) kind) }
 {
-    if !are_values(alloc, properties)? {
-        return Ok(None);
-    }
-    let marks = marks_with(properties, kind);
-    if has_needed(kind, marks) {
-        Ok(Some(marks))
-    } else {
-        Ok(None)
+    match characters_told(alloc, properties.extra)? {
+        Some(extra) => Ok(scheme_by(properties, kind, extra)),
+        None => Ok(None),
     }
 }
 
-/// The kind and the characters of an escape scheme by its properties; nothing where the kind or a character that the kind needs
-/// isn't told, or a property has a value that it can't have ('Simple Types', on escape schemes).
-#[tactic(auto, unfolding(crate::specs::Marks::marks_of))]
-pub fn escape_marks(
+/// An escape scheme by its properties; nothing where the kind or a character that the kind needs isn't told, or a property has a
+/// value that it can't have ('Simple Types', on escape schemes).
+#[tactic(auto, unfolding(crate::specs::Schemes::scheme_of))]
+pub fn escape_scheme(
     alloc: Global,
     properties: &SchemeProperties<'_>,
-) -> Result<Option<EscapeMarks>, AllocError>
-    ensures { IfOk result (λ marks. marks ≡ spec.marks_of (told_of properties.now)) }
+) -> Result<Option<EscapeScheme>, AllocError>
+    ensures { IfOk result (λ scheme. scheme ≡ spec.scheme_of (told_of properties.now)) }
 {
     match kind_told(properties.kind) {
-        Some(kind) => marks_by(alloc, properties, kind),
+        Some(kind) => scheme_of_kind(alloc, properties, kind),
         None => Ok(None),
     }
 }

@@ -6,7 +6,7 @@ use Rattle.dfdl_markup.specs.Trees.{Node, node_at}
 use Rattle.dfdl_constructs.specs.declared.role.Role.{Role}
 use Rattle.dfdl_constructs.specs.declared.role.Role.TheVariants as role
 use Rattle.dfdl_constructs.specs.Elements.{plain_of}
-use Rattle.dfdl_escape_schemes.specs.Marks.{SchemeTold, marks_of, named_by}
+use Rattle.dfdl_escape_schemes.specs.Schemes.{SchemeTold, named_by, scheme_of as scheme_by_properties}
 use Rattle.dfdl_escape_schemes.specs.declared.named.NamedScheme.{NamedScheme}
 use Rattle.dfdl_escape_schemes.specs.declared.named.NamedScheme.TheVariants.{Unknown}
 use Rattle.dfdl_documents.specs.Documents.{SchemaDocument}
@@ -52,7 +52,7 @@ scheme_told nodes scheme = record {
 -- what a definition with this scheme in it defines; one without a scheme defines none
 abbrev pub scheme_by : List Node → Option ℕ → NamedScheme
 scheme_by nodes None = Unknown
-scheme_by nodes (Some scheme) = named_by (marks_of (scheme_told nodes scheme))
+scheme_by nodes (Some scheme) = named_by (scheme_by_properties (scheme_told nodes scheme))
 
 -- the scheme that a definition defines
 abbrev pub scheme_at : List Node → ℕ → NamedScheme

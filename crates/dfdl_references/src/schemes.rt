@@ -10,7 +10,7 @@ ghost use Rattle.dfdl_references.specs.Writers.{property_in};
 use crate::writing::property_in;
 use dfdl_components::{ComponentKind, Named, Schema, Site};
 use dfdl_constructs::{Role, Roles, plain};
-use dfdl_escape_schemes::{NamedScheme, SchemeProperties, escape_marks};
+use dfdl_escape_schemes::{NamedScheme, SchemeProperties, escape_scheme};
 use dfdl_properties::trimmed;
 use dfdl_xml_tree::Tree;
 use std::alloc::{AllocError, Global};
@@ -94,8 +94,8 @@ fn scheme_at(
     let Some(scheme) = scheme_in(tree, roles, definition) else {
         return Ok(NamedScheme::Unknown);
     };
-    let marks = escape_marks(alloc, &scheme_told(tree, roles, scheme))?;
-    Ok(NamedScheme::of(marks))
+    let named = escape_scheme(alloc, &scheme_told(tree, roles, scheme))?;
+    Ok(NamedScheme::of(named))
 }
 
 // The scheme that a definition of a schema's defines.
@@ -113,8 +113,8 @@ fn scheme_of(alloc: Global, schema: &Schema, definition: Site) -> Result<NamedSc
     scheme_at(alloc, tree, schema.roles(document), definition.element)
 }
 
-/// The escape scheme that a text names which is written at an element ('Simple Types', on escapeSchemeRef): its kind and its
-/// characters, or that it is malformed, or that the text names none.
+/// The escape scheme that a text names which is written at an element ('Simple Types', on escapeSchemeRef), or that it is malformed, or that
+/// the text names none.
 #[tactic(auto, unfolding(crate::specs::Schemes::named_scheme))]
 pub fn named_scheme(
     alloc: Global,

@@ -1,12 +1,13 @@
--- What the properties of an escape scheme come to ('Simple Types', on escape schemes): its kind and its characters.
-use Rattle.std.specs.Prelude.{ℕ, List, [], ◌∷◌, Bool, true, false, not, ◌&&◌, ◌||◌, Option, Some, None, is_some, option_and_then, codes, if◌then◌else◌}
-use Rattle.std.specs.List.{list_all}
+-- What the properties of an escape scheme come to ('Simple Types', on escape schemes): its kind, its characters, and when a block is
+-- written.
+use Rattle.std.specs.Prelude.{ℕ, List, [], ◌∷◌, Bool, true, false, ◌&&◌, ◌||◌, Option, Some, None, is_some, option_and_then, codes, if◌then◌else◌}
 use Rattle.std.specs.Option.{option_map_or}
 use Rattle.std.specs.Str.{bytes_eq, chars}
 use Rattle.dfdl_forms.specs.declared.literals.Piece.{Piece}
 use Rattle.dfdl_forms.specs.declared.literals.Piece.TheVariants.{Char}
 use Rattle.dfdl_forms.specs.declared.text.EscapeKind.{EscapeKind}
 use Rattle.dfdl_forms.specs.declared.text.EscapeKind.TheVariants.{Absent, Character, Block}
+use Rattle.dfdl_forms.specs.declared.text.EscapeScheme.{EscapeScheme}
 use Rattle.dfdl_literals.specs.PadSteps.{pad_reading}
 use Rattle.dfdl_literals.specs.Readings.{literals_reading}
 use Rattle.dfdl_literals.specs.declared.pad.PadCharacter.{PadCharacter}
@@ -56,23 +57,29 @@ character_told text = option_and_then character_in text
 abbrev pub is_character_or_none : Option (List ℕ) → Bool
 is_character_or_none text = option_map_or (λ t. is_some (character_in t)) text true
 
--- a literal is one character
-abbrev pub is_single : List Piece → Bool
-is_single (Char c ∷ []) = true
-is_single _ = false
+-- the character that a literal is, if it is one
+abbrev pub single : List Piece → Option ℕ
+single (Char c ∷ []) = Some c
+single _ = None
 
--- literals, each of one character
-abbrev pub are_singles : Option (List (List Piece)) → Bool
-are_singles None = false
-are_singles (Some literals) = list_all is_single literals
+-- a character before others, if they are told
+abbrev pub before : Option ℕ → Option (List ℕ) → Option (List ℕ)
+before (Some c) (Some cs) = Some (c ∷ cs)
+before (Some c) None = None
+before None cs = None
 
--- a text is a list of single characters, which white space divides; it may be empty
-abbrev pub is_list : List ℕ → Bool
-is_list text = not (is_expression text) && are_singles (literals_reading true (chars (literal text)))
+-- the characters that literals are, if each of them is one
+abbrev pub singles : List (List Piece) → Option (List ℕ)
+singles [] = Some []
+singles (literal ∷ literals) = before (single literal) (singles literals)
 
--- what is told, if anything is, is such a list
-abbrev pub is_list_or_none : Option (List ℕ) → Bool
-is_list_or_none text = option_map_or is_list text true
+-- the characters that a text lists, which white space divides, if it is such a list; it may be empty
+abbrev pub characters_in : List ℕ → Option (List ℕ)
+characters_in text = if is_expression text then None else option_and_then singles (literals_reading true (chars (literal text)))
+
+-- the characters that are told, if what is told is such a list; none where nothing is told
+abbrev pub characters_told : Option (List ℕ) → Option (List ℕ)
+characters_told text = option_map_or characters_in text (Some [])
 
 -- a text says when a block is written
 abbrev pub is_generation : List ℕ → Bool
@@ -82,63 +89,86 @@ is_generation text = bytes_eq text (codes "always") || bytes_eq text (codes "whe
 abbrev pub is_generation_or_none : Option (List ℕ) → Bool
 is_generation_or_none text = option_map_or is_generation text true
 
--- each property that is told has a value that it can have, also one that the scheme's kind doesn't need
+-- a block is written also where none is needed; where nothing is told it isn't
+abbrev pub is_always : Option (List ℕ) → Bool
+is_always text = option_map_or (λ t. bytes_eq t (codes "always")) text false
+
+-- each property besides the list of characters that is told has a value that it can have, also one that the scheme's kind doesn't need
 abbrev pub are_values : SchemeTold → Bool
 are_values told =
     is_character_or_none told.escape && is_character_or_none told.escape_escape && is_character_or_none told.start && is_character_or_none told.end
-    && is_list_or_none told.extra && is_generation_or_none told.generation
+    && is_generation_or_none told.generation
 
--- a scheme of this kind with the characters that are told
-abbrev pub marks_with : SchemeTold → EscapeKind → EscapeMarks
-marks_with told kind = record {
+-- a scheme of this kind with the characters that are told, and with these that are escaped too
+abbrev pub scheme_with : SchemeTold → EscapeKind → List ℕ → EscapeScheme
+scheme_with told kind extra = record {
   kind = kind;
   escape = character_told told.escape;
   escape_escape = character_told told.escape_escape;
   start = character_told told.start;
   end = character_told told.end;
+  extra = extra;
+  always = is_always told.generation;
 }
 
 -- the characters that a kind needs are there: the escape character, or the block start and the block end
-abbrev pub has_needed : EscapeKind → EscapeMarks → Bool
-has_needed Absent marks = true
-has_needed Character marks = is_some marks.escape
-has_needed Block marks = is_some marks.start && is_some marks.end
+abbrev pub has_needed : EscapeKind → SchemeTold → Bool
+has_needed Absent told = true
+has_needed Character told = is_some (character_told told.escape)
+has_needed Block told = is_some (character_told told.start) && is_some (character_told told.end)
+
+-- a scheme of this kind, with these characters that are escaped too, if the other properties make one
+abbrev pub scheme_by : SchemeTold → EscapeKind → List ℕ → Option EscapeScheme
+scheme_by told kind extra = if are_values told && has_needed kind told then Some (scheme_with told kind extra) else None
 
 -- a scheme of this kind, if its properties make one
-abbrev pub marks_by : SchemeTold → EscapeKind → Option EscapeMarks
-marks_by told kind = if are_values told && has_needed kind (marks_with told kind) then Some (marks_with told kind) else None
+abbrev pub scheme_of_kind : SchemeTold → EscapeKind → Option EscapeScheme
+scheme_of_kind told kind = option_and_then (scheme_by told kind) (characters_told told.extra)
 
 -- the scheme that the properties make, if they make one: its kind is told, the characters that the kind needs are, and each
 -- property has a value that it can have
-unfoldable pub marks_of : SchemeTold → Option EscapeMarks
-marks_of told = option_and_then (marks_by told) (kind_told told.kind)
+unfoldable pub scheme_of : SchemeTold → Option EscapeScheme
+scheme_of told = option_and_then (scheme_of_kind told) (kind_told told.kind)
 
 -- what is named by a name that names the scheme of these properties
-abbrev pub named_by : Option EscapeMarks → NamedScheme
+abbrev pub named_by : Option EscapeScheme → NamedScheme
 named_by None = named.Malformed
-named_by (Some marks) = named.Told marks
+named_by (Some scheme) = named.Told scheme
 
 -- no scheme
-abbrev pub no_marks : EscapeMarks
-no_marks = record { kind = Absent; escape = None; escape_escape = None; start = None; end = None }
+abbrev pub no_scheme : EscapeScheme
+no_scheme = record { kind = Absent; escape = None; escape_escape = None; start = None; end = None; extra = []; always = false }
 
--- the kind and the characters of what is named; none where no scheme is
+-- what is named; no scheme where none is
+abbrev pub scheme_named : NamedScheme → EscapeScheme
+scheme_named named.NoName = no_scheme
+scheme_named named.Unknown = no_scheme
+scheme_named named.Malformed = no_scheme
+scheme_named (named.Told scheme) = scheme
+
+-- what reading asks of a scheme: its kind, and the characters that it takes off
+abbrev pub marks_of : EscapeScheme → EscapeMarks
+marks_of scheme =
+    record { kind = scheme.kind; escape = scheme.escape; escape_escape = scheme.escape_escape; start = scheme.start; end = scheme.end }
+
+-- the same of no scheme
+abbrev pub no_marks : EscapeMarks
+no_marks = marks_of no_scheme
+
+-- the same of what is named
 abbrev pub marks_named : NamedScheme → EscapeMarks
-marks_named named.NoName = no_marks
-marks_named named.Unknown = no_marks
-marks_named named.Malformed = no_marks
-marks_named (named.Told marks) = marks
+marks_named scheme = marks_of (scheme_named scheme)
 
 -- a name that names nothing
 abbrev pub is_unknown : NamedScheme → Bool
 is_unknown named.NoName = false
 is_unknown named.Unknown = true
 is_unknown named.Malformed = false
-is_unknown (named.Told marks) = false
+is_unknown (named.Told scheme) = false
 
 -- a name that names a scheme which is none
 abbrev pub is_malformed : NamedScheme → Bool
 is_malformed named.NoName = false
 is_malformed named.Unknown = false
 is_malformed named.Malformed = true
-is_malformed (named.Told marks) = false
+is_malformed (named.Told scheme) = false

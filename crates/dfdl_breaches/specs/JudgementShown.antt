@@ -13,6 +13,7 @@ use Rattle.dfdl_checks.specs.Representations.{representations_of}
 use Rattle.dfdl_checks.specs.Rules.{breach_of_component}
 use Rattle.dfdl_checks.specs.Standings.{initiates}
 use Rattle.dfdl_checks.specs.Tests.{checks_of, tests_of}
+use Rattle.dfdl_checks.specs.Writings.{writing_of}
 use Rattle.dfdl_chains.specs.declared.settings.Setter.{Setter}
 use Rattle.dfdl_components.specs.declared.site.Site.{Site}
 use Rattle.dfdl_breaches.specs.Judging.{form_before, simple_told}
@@ -41,5 +42,6 @@ judgement_of hidden settings j = record {
   count = count_expression j;
   key = key_expression j;
   keys = keys_of j;
+  writing = writing_of j;
   hidden = hidden;
 }

@@ -1,6 +1,7 @@
 -- What is wrong at each component of a schema by itself, how the values of its simple elements lie in the data, which fill, which
 -- delimiters and which box stand around its content, which other representations it has, how often it occurs, which tests and settings it
--- has, by which expressions its value is calculated and its length and the number of its occurrences are told, and which group it hides.
+-- has, by which expressions its value is calculated and its length and the number of its occurrences are told, how it is written, and which
+-- group it hides.
 use Rattle.std.specs.Prelude.{ℕ, List, [], length, nat_lt, Option, None, Some, Bool, false, if◌then◌else◌}
 use Rattle.dfdl_documents.specs.Documents.{SchemaDocument}
 use Rattle.dfdl_components.specs.declared.site.Site.{Site}
@@ -17,6 +18,7 @@ use Rattle.dfdl_checks.specs.Representations.{no_representations, representation
 use Rattle.dfdl_checks.specs.Rules.{breach_of_component}
 use Rattle.dfdl_checks.specs.Standings.{initiates}
 use Rattle.dfdl_checks.specs.Tests.{checks_of, tests_of}
+use Rattle.dfdl_checks.specs.Writings.{writing_of}
 use Rattle.dfdl_checks.specs.declared.expression_tests.CheckForm.{CheckForm}
 use Rattle.dfdl_checks.specs.declared.measures.MeasureForm.{MeasureForm}
 use Rattle.dfdl_checks.specs.declared.tried.OtherRepresentations.{OtherRepresentations}
@@ -44,6 +46,8 @@ use Rattle.dfdl_terms.specs.declared.framing.Framing.{Framing}
 use Rattle.dfdl_terms.specs.declared.occurs.Occurs.{Occurs}
 use Rattle.dfdl_terms.specs.declared.statement.PatternTest.{PatternTest}
 use Rattle.dfdl_terms.specs.declared.row.Primitive.{Primitive}
+use Rattle.dfdl_terms.specs.declared.writing.Writing.{Writing}
+use Rattle.dfdl_escape_schemes.specs.Schemes.{no_scheme}
 use Rattle.dfdl_breaches.specs.Elements.{place_of}
 use Rattle.dfdl_breaches.specs.Hidden.{content_hidden, facts_where, hides, hiding_at, is_unknown, kind_where, settings_where, tests_where}
 use Rattle.dfdl_breaches.specs.Prefixes.{prefix_at}
@@ -188,6 +192,10 @@ key_at purpose refused documents own = key_expression (judged_at purpose refused
 abbrev pub branch_keys_at : Purpose → (Site → Bool) → List SchemaDocument → Site → List (List ℕ)
 branch_keys_at purpose refused documents own = keys_of (judged_at purpose refused documents own)
 
+-- how a component is written, beside what its rows say
+abbrev pub writing_at : Purpose → (Site → Bool) → List SchemaDocument → Site → Writing
+writing_at purpose refused documents own = writing_of (judged_at purpose refused documents own)
+
 -- settings are built for parsing
 abbrev pub settings_for : Purpose → List Setter → List Setter
 settings_for Parsing settings = settings
@@ -200,6 +208,10 @@ built_settings_at purpose documents own = settings_for purpose (stated_settings_
 -- the sequence or choice of the group that a component hides
 abbrev pub hidden_at : Purpose → List SchemaDocument → Site → Option Site
 hidden_at purpose documents own = content_hidden (hiding_at purpose documents own)
+
+-- how what is no component is written: it never is
+abbrev pub no_writing : Writing
+no_writing = record { fill = 0; text = record { least = 0; new_line = []; scheme = no_scheme }; default = None }
 
 -- nothing is told of what is no component
 abbrev pub no_judgement : Judgement
@@ -224,6 +236,7 @@ no_judgement = record {
   count = None;
   key = None;
   keys = [];
+  writing = no_writing;
   hidden = None;
 }
 
@@ -252,6 +265,7 @@ judgement_at purpose refused documents own =
       count = count_at purpose refused documents own;
       key = key_at purpose refused documents own;
       keys = branch_keys_at purpose refused documents own;
+      writing = writing_at purpose refused documents own;
       hidden = hidden_at purpose documents own;
     }
     else no_judgement

@@ -5,7 +5,7 @@ use crate::test_list::TestList;
 use dfdl_checks::{Breach, KeyList, Markup, MeasureForm, OtherRepresentations, PrefixForm};
 use dfdl_components::Site;
 use dfdl_forms::Simple;
-use dfdl_terms::{Framing, Occurs, Primitive};
+use dfdl_terms::{Framing, Occurs, Primitive, Writing};
 use dfdl_value::TextValue;
 
 /// What is told of an element of a schema's documents.
@@ -51,6 +51,8 @@ pub struct Judgement {
     pub key: Option<TextValue>,
     /// Its keys, where it is a branch of such a choice.
     pub keys: KeyList,
+    /// How it is written, beside what its rows say ('Framing', 'Simple Types').
+    pub writing: Writing,
     /// It stands for the group of this sequence or choice, whose elements the infoset doesn't have ('Sequence Groups').
     pub hidden: Option<Site>,
 }

@@ -17,7 +17,7 @@ use dfdl_checks::{
     Kind, PrefixForm, Purpose, Subject, branch_keys, breach, calculation, checks, count,
     delimiters_at, framing, initiates, is_count_parsed, key, length_pattern, measure, message_of,
     occurrences, other_representations, output_calculation, pattern_encoding, prefix, primitive,
-    size_of_box,
+    size_of_box, writing,
 };
 use dfdl_components::Site;
 use dfdl_edge::{PatternRefusal, Patterns};
@@ -97,6 +97,7 @@ fn told_of(
     let count = count(alloc, subject)?;
     let key = key(alloc, subject)?;
     let keys = branch_keys(alloc, subject)?;
+    let writing = writing(alloc, subject)?;
     Ok(Judgement {
         breach,
         primitive,
@@ -118,6 +119,7 @@ fn told_of(
         count,
         key,
         keys,
+        writing,
         hidden,
     })
 }

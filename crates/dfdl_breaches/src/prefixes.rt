@@ -48,7 +48,7 @@ pub(crate) fn lent<'p, 'e, 's>(prefix: &'p Option<Prefix<'e, 's>>) -> Option<Pre
             simple: prefix.simple,
             place: prefix.place,
             chain: &prefix.chain,
-            scheme: prefix.scheme,
+            scheme: &prefix.scheme,
         }),
         None => None,
     }

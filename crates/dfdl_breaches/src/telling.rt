@@ -10,7 +10,7 @@ ghost use Rattle.dfdl_breaches.specs.Builds.{AreBuiltInPart, AreJudged, always, 
 ghost use Rattle.dfdl_breaches.specs.BuildsShown.{IsPushed, IsToldBy};
 ghost use Rattle.dfdl_breaches.specs.GatheredShown.{IsGathered};
 ghost use Rattle.dfdl_breaches.specs.JudgementShown.{judgement_of};
-ghost use Rattle.dfdl_breaches.specs.Judging.{built_settings_at, hidden_at, judged_at, judgement_at, no_judgement};
+ghost use Rattle.dfdl_breaches.specs.Judging.{built_settings_at, hidden_at, judged_at, judgement_at, no_judgement, no_writing};
 ghost use Rattle.dfdl_breaches.specs.KeptShown.{AreKept};
 ghost use Rattle.dfdl_breaches.specs.Roots as spec;
 ghost use Rattle.dfdl_breaches.specs.Standing.{standing_at};
@@ -41,9 +41,9 @@ use dfdl_checks::{
 };
 use dfdl_components::{Schema, Site};
 use dfdl_edge::Patterns;
-use dfdl_forms::BitOrder;
+use dfdl_forms::{BitOrder, CharList, EscapeKind, EscapeScheme};
 use dfdl_scope::Properties;
-use dfdl_terms::{Framing, Occurs};
+use dfdl_terms::{Framing, Occurs, Writing, WritingForm};
 use std::alloc::{AllocError, Global};
 
 // The order of bits that is told at a component with this chain.
@@ -118,7 +118,7 @@ fn judged_by<'p, 'e, 's, P: Patterns>(
         facts: facts_where(is_hidden, facts),
         root_bits_by: bits_by,
         prefix: lent(&own.prefix),
-        scheme: own.scheme,
+        scheme: &own.scheme,
         pattern_is_refused: false,
         tests: tests_where(is_hidden, own.tests.as_slice()),
         sets_variables: are_some(&settings),
@@ -208,6 +208,30 @@ fn no_empty() -> EmptyRepresentation
     }
 }
 
+// How what is no component is written.
+fn no_writing(alloc: Global) -> Writing
+    ensures { result ≡ no_writing }
+{
+    let scheme = EscapeScheme {
+        kind: EscapeKind::Absent,
+        escape: None,
+        escape_escape: None,
+        start: None,
+        end: None,
+        extra: CharList::new(Vec::new(alloc)),
+        always: false,
+    };
+    Writing {
+        fill: 0,
+        text: WritingForm {
+            least: 0,
+            new_line: CharList::new(Vec::new(alloc)),
+            scheme,
+        },
+        default: None,
+    }
+}
+
 // Nothing is told of what is no component.
 fn nothing_told(alloc: Global) -> Judgement
     ensures { result ≡ no_judgement }
@@ -245,6 +269,7 @@ fn nothing_told(alloc: Global) -> Judgement
         count: None,
         key: None,
         keys: KeyList::from_vec(Vec::new(alloc)),
+        writing: no_writing(alloc),
         hidden: None,
     }
 }
@@ -320,8 +345,8 @@ fn judgements<'s, P: Patterns>(
 
 /// What is told of each element of a schema's documents, in the order of their numbers: of a component
 /// the first rule that it breaks, how its values, what tells its length and its other representations lie in the data, the fill
-/// and the box around its content, its tests and settings, by which expression its value is calculated, and the group that it hides;
-/// of every other element nothing.
+/// and the box around its content, its tests and settings, by which expression its value is calculated, how it is written, and the group
+/// that it hides; of every other element nothing.
 ///
 /// What its rows are made for decides which forms are built. The order of bits is that of the root, which is found once. The
 /// properties of each element are collected once, and each format is joined once. What groups ask of their parts is noted once, before

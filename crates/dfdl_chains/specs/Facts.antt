@@ -15,7 +15,8 @@ use Rattle.dfdl_checks.specs.Judged.{FactsJudged}
 use Rattle.dfdl_checks.specs.declared.occurring.Bounds.{Bounds}
 use Rattle.dfdl_chains.specs.Declarations.{attribute_of, declaration}
 use Rattle.dfdl_chains.specs.Chains.{chain_sites}
-use Rattle.dfdl_chains.specs.Lengths.{length_of, max_length}
+use Rattle.dfdl_chains.specs.Lengths.{bound_of, length_of}
+use Rattle.dfdl_chains.specs.declared.lengths.Bound.TheVariants.{Least, Greatest}
 use Rattle.dfdl_chains.specs.Parts.{inside_of, is_none_of}
 
 -- the least number of occurrences, which is 1 where it is absent
@@ -109,5 +110,6 @@ facts_at documents own = record {
   opens_instances = list_any (has_own_openings documents) (chain_sites documents own);
   is_local = is_local (role_of documents own);
   is_empty = is_none_of (inside_of documents own);
-  max_length = max_length documents own;
+  min_length = bound_of Least documents own;
+  max_length = bound_of Greatest documents own;
 }

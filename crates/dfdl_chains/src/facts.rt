@@ -9,7 +9,7 @@ ghost use Rattle.dfdl_chains.specs.Chains as chains;
 ghost use Rattle.dfdl_chains.specs.Facts as spec;
 
 use crate::declaring::{attribute, declaration};
-use crate::lengths::{length_of, max_length};
+use crate::lengths::{Bound, bound_of, length_of};
 use crate::parts::is_empty;
 use dfdl_checks::{Bounds, Facts};
 use dfdl_components::{Schema, Site};
@@ -251,6 +251,7 @@ pub fn facts_at<'s>(schema: &'s Schema, site: Site, chain: &[Site]) -> Facts<'s>
         opens_instances: have_openings(schema, chain),
         is_local: is_local(schema.role(site)),
         is_empty: is_empty(schema, site),
-        max_length: max_length(schema, site, chain),
+        min_length: bound_of(schema, Bound::Least, site, chain),
+        max_length: bound_of(schema, Bound::Greatest, site, chain),
     }
 }

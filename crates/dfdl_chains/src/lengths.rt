@@ -1,4 +1,4 @@
-// The greatest length of an element's values.
+// The least and the greatest length of an element's values.
 ghost use Rattle.std.specs.Prelude.{◌≡◌, ◌<◌, drop, length, All, option_copied};
 ghost use Rattle.dfdl_components.specs.Sites.{IsSite, nodes_of};
 ghost use Rattle.dfdl_chains.specs.Chains as chains;
@@ -7,6 +7,13 @@ ghost use Rattle.dfdl_chains.specs.Lengths as spec;
 use crate::declaring::{attribute, part_inside};
 use dfdl_components::{Schema, Site};
 use dfdl_constructs::Role;
+
+/// Which bound of the lengths of values: the facet minLength gives the least one, and maxLength the greatest.
+#[derive(Debug, Clone, Copy, PartialEq, Eq)]
+pub(crate) enum Bound {
+    Least,
+    Greatest,
+}
 
 /// The number that digits stand for, at most 2^64 - 1.
 pub(crate) fn length_of(digits: &str) -> u64
@@ -30,58 +37,58 @@ fn length_if(digits: Option<&str>) -> Option<u64>
     }
 }
 
-// The facet maxLength.
-fn is_max_length(role: Role) -> bool
-    ensures { result ≡ spec.is_max_length role }
+// The facet of a bound.
+fn is_facet(bound: Bound, role: Role) -> bool
+    ensures { result ≡ spec.is_facet bound role }
 {
-    match role {
-        Role::MaxLength => true,
-        _ => false,
+    match bound {
+        Bound::Least => matches!(role, Role::MinLength),
+        Bound::Greatest => matches!(role, Role::MaxLength),
     }
 }
 
-// An element of the document is the facet maxLength.
-fn is_max_length_at(schema: &Schema, site: Site) -> bool
+// An element of the document is the facet of a bound.
+fn is_facet_at(schema: &Schema, bound: Bound, site: Site) -> bool
     requires { site.document < length schema.now }
-    ensures { result ≡ spec.is_max_length_at (nodes_of schema.now site.document) site.element }
+    ensures { result ≡ spec.is_facet_at bound (nodes_of schema.now site.document) site.element }
 {
-    site.element < schema.tree(site.document).count() && is_max_length(schema.role(site))
+    site.element < schema.tree(site.document).count() && is_facet(bound, schema.role(site))
 }
 
-// The greatest length that a restriction gives.
-fn restricted_length(schema: &Schema, site: Site) -> Option<u64>
+// The bound of lengths that a restriction gives.
+fn restricted_length(schema: &Schema, bound: Bound, site: Site) -> Option<u64>
     requires { IsSite schema.now site }
-    ensures { result ≡ spec.restricted_length schema.now site }
+    ensures { result ≡ spec.restricted_length bound schema.now site }
 {
     let document = site.document;
     for child in schema.tree(document).children(site.element) {
         let element = *child;
         let facet = Site { document, element };
-        if is_max_length_at(schema, facet) {
+        if is_facet_at(schema, bound, facet) {
             return length_if(attribute(schema, facet, "value"));
         }
     }
     None
 }
 
-// The greatest length that a simple type gives by its own restriction.
-fn own_length(schema: &Schema, site: Site) -> Option<u64>
+// The bound of lengths that a simple type gives by its own restriction.
+fn own_length(schema: &Schema, bound: Bound, site: Site) -> Option<u64>
     requires { IsSite schema.now site }
-    ensures { result ≡ spec.own_length schema.now site }
+    ensures { result ≡ spec.own_length bound schema.now site }
 {
     match part_inside(schema, site) {
-        Some(restriction) => restricted_length(schema, restriction),
+        Some(restriction) => restricted_length(schema, bound, restriction),
         None => None,
     }
 }
 
-// The greatest length of the first of some simple types that gives one.
-fn nearest_length(schema: &Schema, types: &[Site]) -> Option<u64>
+// The bound of lengths of the first of some simple types that gives one.
+fn nearest_length(schema: &Schema, bound: Bound, types: &[Site]) -> Option<u64>
     requires { All (IsSite schema.now) types.now }
-    ensures { result ≡ spec.nearest_length schema.now types.now }
+    ensures { result ≡ spec.nearest_length bound schema.now types.now }
 {
     for site in types {
-        if let Some(length) = own_length(schema, *site) {
+        if let Some(length) = own_length(schema, bound, *site) {
             return Some(length);
         }
     }
@@ -110,12 +117,16 @@ fn types_in<'c>(schema: &Schema, site: Site, role: Role, chain: &'c [Site]) -> &
     }
 }
 
-/// The greatest length of the values of an element with this chain, where its type has one.
-#[tactic(auto, using(crate::proofs::Within::types_within), unfolding(crate::specs::Lengths::max_length, crate::specs::Chains::chain_sites))]
-pub(crate) fn max_length(schema: &Schema, site: Site, chain: &[Site]) -> Option<u64>
+/// A bound of the lengths of the values of an element with this chain, where its type has it.
+#[tactic(auto, using(crate::proofs::Within::types_within), unfolding(crate::specs::Lengths::bound_of, crate::specs::Chains::chain_sites))]
+pub(crate) fn bound_of(schema: &Schema, bound: Bound, site: Site, chain: &[Site]) -> Option<u64>
     requires site { IsSite schema.now site }
     requires chain { chain.now ≡ chains.chain_sites schema.now site }
-    ensures { result ≡ spec.max_length schema.now site }
+    ensures { result ≡ spec.bound_of bound schema.now site }
 {
-    nearest_length(schema, types_in(schema, site, schema.role(site), chain))
+    nearest_length(
+        schema,
+        bound,
+        types_in(schema, site, schema.role(site), chain),
+    )
 }

@@ -1,17 +1,18 @@
 -- Numbers in decimal digits that are too long for a machine's number.
-use Rattle.std.proofs.Common.{◌≡◌, sym, ap, ◌∙◌, ℕ, ◌<◌, ◌≤◌, ◌^◌, ◌*◌, length, List, Some, None, Result, Ok, Err, Bool, true, false, ◌&&◌, if◌then◌else◌, nat_le, arith}
+use Rattle.std.proofs.Common.{◌≡◌, sym, ap, ◌∙◌, ℕ, ◌<◌, ◌≤◌, ◌^◌, ◌*◌, ◌-◌, min, length, List, Some, None, Result, Ok, Err, Bool, true, false, ◌&&◌, if◌then◌else◌, nat_le, arith}
 use Rattle.std.specs.Result.{OkIff}
 use Rattle.std.specs.Str.{all_ascii_digits}
 use Rattle.std.specs.Str.Parse.{digits_value, ParsesUnsigned}
 use Rattle.std.proofs.lemmas.Str.Parse.{numerals_by_value, parse_digits, tells_all_ascii_digits}
 use Rattle.std.proofs.lemmas.Bool.{lt-leb}
 use Rattle.std.proofs.Math.Bool.{and-false}
-use Rattle.std.proofs.Math.Nat.{le-mul_of_pos_right}
+use Rattle.std.proofs.Math.Nat.{le-mul_of_pos_right, min-eq_right}
 use Rattle.dfdl_terms.specs.Rows.{most_length}
 use Rattle.dfdl_checks.specs.Boxes.{units_within}
 use Rattle.dfdl_checks.specs.Lengths.{length_in, number_of_digits, size_within}
 use Rattle.dfdl_checks.specs.Numbers.{places_of_digits}
 use Rattle.dfdl_checks.specs.Values.{is_number, is_within, number_within}
+use Rattle.dfdl_checks.specs.Writings.{least_of}
 
 -- a number has a digit, and digits alone
 pub number-digits : (text : List ℕ) → is_number text ≡ true → (0 < length text) × (all_ascii_digits text ≡ true)
@@ -93,3 +94,11 @@ too-deep text r e at h is =
 
     true-not-false : true ≡ false → ⊥
     true-not-false h = grind (arith, h)
+
+-- what is no number of 64 bits counts as the greatest of these
+pub too-large : {E : Type 0} (text : List ℕ) (r : Result ℕ E) (e : E) → is_number text ≡ true → ParsesUnsigned 64 10 text r → r ≡ Err e
+    → 2 ^ 64 - 1 ≡ least_of text
+unfolding least_of
+too-large text r e at h is =
+    let long : 2 ^ 64 ≤ digits_value 10 text = long-number 64 text r e at h is in
+    sym (ap (λ b. if b then min (digits_value 10 text) (2 ^ 64 - 1) else 0) at ∙ min-eq_right (omega (arith, long)))

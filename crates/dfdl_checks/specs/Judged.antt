@@ -11,7 +11,8 @@ use Rattle.dfdl_checks.specs.declared.subject.Kind.{Kind}
 use Rattle.dfdl_checks.specs.declared.subject.Standing.{Standing}
 
 -- what a component states besides its properties and tests: of an element, minOccurs and maxOccurs, whether it may be nil, and
--- the text of its default value; whether a newVariableInstance stands at it; of an element, whether it is declared where it stands; of a sequence or a choice, whether nothing is in it; and of an element of a simple type, the greatest length of its values
+-- the text of its default value; whether a newVariableInstance stands at it; of an element, whether it is declared where it stands; of a
+-- sequence or a choice, whether nothing is in it; and of an element of a simple type, the least and the greatest length of its values
 pub record FactsJudged : Type 0 where
   pub bounds : Bounds
   pub is_nillable : Bool
@@ -19,6 +20,7 @@ pub record FactsJudged : Type 0 where
   pub opens_instances : Bool
   pub is_local : Bool
   pub is_empty : Bool
+  pub min_length : Option ℕ
   pub max_length : Option ℕ
 
 -- an assert or a discriminator as it is written: which element of which document it is, whether it is a discriminator, its testKind,

@@ -16,6 +16,7 @@ facts_judged_of facts = record {
   opens_instances = facts.opens_instances;
   is_local = facts.is_local;
   is_empty = facts.is_empty;
+  min_length = facts.min_length;
   max_length = facts.max_length;
 }
 
@@ -36,7 +37,7 @@ test_judged_of test = record {
 abbrev pub prefix_judged_of : Option PrefixType → Option PrefixJudged
 prefix_judged_of None = None
 prefix_judged_of (Some prefix) =
-    Some (record { simple = prefix.simple; place = prefix.place; chain = chain_of prefix.chain.now; scheme = prefix.scheme })
+    Some (record { simple = prefix.simple; place = prefix.place; chain = chain_of prefix.chain.now; scheme = prefix.scheme.now })
 
 -- a component with a chain that is lent
 abbrev pub judged_of : Subject → Judged
@@ -48,7 +49,7 @@ judged_of subject = record {
   facts = facts_judged_of subject.facts;
   root_bits_by = subject.root_bits_by;
   prefix = prefix_judged_of subject.prefix;
-  scheme = subject.scheme;
+  scheme = subject.scheme.now;
   pattern_is_refused = subject.pattern_is_refused;
   tests = map test_judged_of subject.tests.now;
   sets_variables = subject.sets_variables;

@@ -38,3 +38,4 @@ pub mod Forms
 pub mod Places
 pub mod Standings
 pub mod Tests
+pub mod Writings

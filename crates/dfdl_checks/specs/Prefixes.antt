@@ -45,6 +45,7 @@ no_facts = record {
   opens_instances = false;
   is_local = false;
   is_empty = false;
+  min_length = None;
   max_length = None;
 }
 

@@ -6,7 +6,7 @@ use Rattle.dfdl_forms.specs.declared.simple.Simple.TheVariants.{Decimal, Integer
 use Rattle.dfdl_report.specs.declared.cause.SchemaCause.{SchemaCause}
 use Rattle.dfdl_report.specs.declared.cause.SchemaCause.TheVariants as causes
 use Rattle.dfdl_report.specs.declared.place.Place.{Place}
-use Rattle.dfdl_escape_schemes.specs.Marks.{is_malformed as is_malformed_scheme, is_unknown}
+use Rattle.dfdl_escape_schemes.specs.Schemes.{is_malformed as is_malformed_scheme, is_unknown}
 use Rattle.dfdl_scope.specs.Scoping.{repeated_at}
 use Rattle.dfdl_scope.specs.Table.{names_of, property_table}
 use Rattle.dfdl_checks.specs.Booleans.{falsity_told, truth_told}

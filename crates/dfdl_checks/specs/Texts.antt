@@ -4,7 +4,7 @@ use Rattle.std.specs.Prelude.{ℕ, List, Bool, false, not, ◌&&◌, ◌*◌, Op
 use Rattle.dfdl_forms.specs.declared.encoding.Encoding.{Encoding}
 use Rattle.dfdl_forms.specs.declared.encoding.Encoding.TheVariants.{Iso88591}
 use Rattle.dfdl_forms.specs.declared.order.BitOrder.{BitOrder}
-use Rattle.dfdl_escape_schemes.specs.Marks.{marks_named, no_marks}
+use Rattle.dfdl_escape_schemes.specs.Schemes.{marks_named, no_marks}
 use Rattle.dfdl_escape_schemes.specs.declared.marks.EscapeMarks.{EscapeMarks}
 use Rattle.dfdl_forms.specs.declared.text.Justify.{Justify}
 use Rattle.dfdl_forms.specs.declared.text.Justify.TheVariants.{Left, Right, Center}

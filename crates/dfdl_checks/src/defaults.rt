@@ -57,7 +57,7 @@ pub(crate) fn is_default_not_allowed(
 }
 
 /// The value of a default, if it is told and one of the type.
-fn default_value(
+pub(crate) fn default_value(
     alloc: Global,
     simple: Simple,
     default: Option<&str>,

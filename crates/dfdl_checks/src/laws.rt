@@ -27,6 +27,7 @@ ghost use Rattle.dfdl_checks.specs.Prefixes.{is_integer, prefix_of};
 ghost use Rattle.dfdl_checks.specs.Representations.{no_representations, representations_of};
 ghost use Rattle.dfdl_checks.specs.Rules.{breach_of_component, first_breach, rules};
 ghost use Rattle.dfdl_checks.specs.Subjects.{is_binary, is_by_pattern, is_choice, is_element, is_hex_binary, is_nillable, is_prefixed, is_sequence, is_simple, is_text, simple_of, told_at};
+ghost use Rattle.dfdl_checks.specs.Writings.{writing_of};
 ghost use Rattle.dfdl_checks.specs.declared.delimiters.Delimiting.{Delimiting};
 ghost use Rattle.dfdl_checks.specs.declared.delimiters.Separating.{Separating};
 ghost use Rattle.dfdl_checks.specs.declared.prefixes.PrefixForm.{PrefixForm};
@@ -176,7 +177,8 @@ pub fn keys_are_told()
 
 /// Components whose chains give the same, name by name, and those of the types of their prefixes, have the same breach, the same
 /// primitive, the same other representations, the same fill, the same delimiters, the same box, the same prefix, the same pattern of
-/// their length, and occur as often; the same expressions tell how long they are, how often they occur and which branch is taken, and they have the same keys.
+/// their length, and occur as often; the same expressions tell how long they are, how often they occur and which branch is taken, and they have the same keys. They
+/// are written alike.
 pub fn alike_components_are_judged_alike()
     ensures breach { (a b : Judged) → IsAlike a b → breach_of_component a ≡ breach_of_component b }
     ensures primitive { (a b : Judged) → IsAlike a b → primitive_of a ≡ primitive_of b }
@@ -193,6 +195,7 @@ pub fn alike_components_are_judged_alike()
     ensures count { (a b : Judged) → IsAlike a b → count_expression a ≡ count_expression b }
     ensures key { (a b : Judged) → IsAlike a b → key_expression a ≡ key_expression b }
     ensures keys { (a b : Judged) → IsAlike a b → keys_of a ≡ keys_of b }
+    ensures writing { (a b : Judged) → IsAlike a b → writing_of a ≡ writing_of b }
 {}
 
 /// Chains that give the same, name by name, tell the same of each property.

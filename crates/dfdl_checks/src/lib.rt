@@ -17,7 +17,8 @@
 //! `other_representations` says which representations of a simple element are tried before its normal one, by
 //! `specs/Representations.antt`, which stands on `specs/Nils.antt`, `specs/NilValues.antt` and `specs/Defaults.antt`. The chapters are
 //! 'Property Scoping and DFDL Schema Checking', 'DFDL Data Syntax Grammar', 'Framing', 'Lengths', 'Simple Types', 'Sequence Groups' and
-//! 'Arrays and Optional Elements'. Which values are calculated is told by `specs/Calculations.antt` ('Calculated Values').
+//! 'Arrays and Optional Elements'. Which values are calculated is told by `specs/Calculations.antt` ('Calculated Values'). `writing` says how a
+//! component is written beside what its rows say, by `specs/Writings.antt`.
 #![tactic(auto)]
 
 mod applicability;
@@ -63,6 +64,7 @@ mod text;
 mod text_rules;
 mod tried;
 mod values;
+mod writings;
 mod zoned_texts;
 
 pub use boxes::size_of_box;
@@ -85,3 +87,4 @@ pub use standings::initiates;
 pub use subject::{Breach, Facts, Kind, PrefixType, Standing, StatedTest, Subject};
 pub use tests::{is_pattern_test, test_pattern, tests_for};
 pub use tried::{EmptyRepresentation, OtherRepresentations, other_representations};
+pub use writings::writing;

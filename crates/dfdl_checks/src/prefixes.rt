@@ -43,6 +43,7 @@ const NO_FACTS: Facts<'static> = Facts {
     opens_instances: false,
     is_local: false,
     is_empty: false,
+    min_length: None,
     max_length: None,
 };
 

@@ -41,6 +41,9 @@ pub struct Facts<'c> {
     pub is_local: bool,
     /// Of a sequence or a choice: nothing is in it.
     pub is_empty: bool,
+    /// Of an element of a simple type: the least length of its values, where the type has one; a number past 64 bits is the greatest of
+    /// these.
+    pub min_length: Option<u64>,
     /// Of an element of a simple type: the greatest length of its values, where the type has one; a number past 64 bits is the
     /// greatest of these.
     pub max_length: Option<u64>,
@@ -92,7 +95,7 @@ pub struct PrefixType<'s, 'e, 'c> {
     /// What its properties are asked of.
     pub chain: &'s Component<'e, 'c>,
     /// What its property escapeSchemeRef names.
-    pub scheme: NamedScheme,
+    pub scheme: &'s NamedScheme,
 }
 
 /// A component of a schema, with what the rules ask of it.
@@ -111,7 +114,7 @@ pub struct Subject<'s, 'e, 'c> {
     /// The type that its property prefixLengthType names, if it names one.
     pub prefix: Option<PrefixType<'s, 'e, 'c>>,
     /// What its property escapeSchemeRef names.
-    pub scheme: NamedScheme,
+    pub scheme: &'s NamedScheme,
     /// The pattern of its length, or that of one of its tests, can't be built.
     pub pattern_is_refused: bool,
     /// Its asserts and discriminators, in their order.

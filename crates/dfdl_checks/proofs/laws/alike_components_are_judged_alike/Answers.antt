@@ -11,6 +11,7 @@ use Rattle.dfdl_checks.specs.Patterns.{length_pattern, pattern_encoding, pattern
 use Rattle.dfdl_checks.specs.Prefixes.{prefix_of}
 use Rattle.dfdl_checks.specs.Representations.{representations_of}
 use Rattle.dfdl_checks.specs.Rules.{breach_of_component}
+use Rattle.dfdl_checks.specs.Writings.{writing_of}
 use Rattle.dfdl_checks.proofs.laws.alike_components_are_judged_alike.Goals as goal
 
 pub returns-clause-breach : goal.returns-clause-breach
@@ -57,3 +58,6 @@ returns-clause-key c = λ a b alike. ap key_expression (same-component a b alike
 
 pub returns-clause-keys : goal.returns-clause-keys
 returns-clause-keys c = λ a b alike. ap keys_of (same-component a b alike)
+
+pub returns-clause-writing : goal.returns-clause-writing
+returns-clause-writing c = λ a b alike. ap writing_of (same-component a b alike)

@@ -19,13 +19,11 @@ use Rattle.dfdl_breaches.specs.declared.judgement.Judgement.{Judgement}
 use Rattle.dfdl_terms.specs.declared.statement.PatternTest.{PatternTest}
 use Rattle.dfdl_terms.specs.declared.prefix.Measure.{Measure}
 use Rattle.dfdl_terms.specs.declared.prefix.Prefix.{Prefix}
-use Rattle.dfdl_terms.specs.declared.row.Row.TheVariants.{Choice}
 use Rattle.dfdl_rows.specs.Components.{Schema, IsBareComponent}
 use Rattle.dfdl_rows.specs.Framing.{has_framing}
 use Rattle.dfdl_rows.specs.Times.{question_of}
 use Rattle.dfdl_rows.specs.declared.component.ContentBox.TheVariants.{Unbounded}
 use Rattle.dfdl_rows.specs.declared.component.LeafLength.TheVariants.{Own}
-use Rattle.dfdl_rows.specs.declared.component.Component.TheVariants.{Sequence, SimpleElement, CalculatedElement}
 use Rattle.dfdl_compile.specs.Components.{box_by, component_at, components_of, counted_by, dispatch_at, framing_of, hiding_by, leaf_length_by, measure_by, number_if, prefix_by, prefix_number, separator_number}
 use Rattle.dfdl_chains.specs.declared.settings.Setter.{Setter}
 use Rattle.dfdl_compile.specs.Statements.{count_number, first_statement, if_first, if_last, is_set_first, measure_number, opening_count}

@@ -1,5 +1,5 @@
 -- The elements whose values are calculated.
-use Rattle.std.proofs.Common.{◌≡◌, ℕ, List, [], Bool, true, false, Option, Some, None, IsSome, ap, refl}
+use Rattle.std.proofs.Common.{◌≡◌, ℕ, List, [], Bool, true, false, Option, Some, None, IsSome, refl}
 use Rattle.dfdl_constructs.specs.declared.role.Role.{Role}
 use Rattle.dfdl_constructs.specs.declared.role.Role.TheVariants as role
 use Rattle.dfdl_documents.specs.Documents.{SchemaDocument}

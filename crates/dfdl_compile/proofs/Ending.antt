@@ -68,6 +68,8 @@ limit_is told a limit.Depth quantity is =
     ap (λ (b : Bool). if b then Err (ends.Limit limit.Depth a.depth) else by_rows told a (first_refusal a.schema a.root)) (lt-ltb a.depth (depth_of a.schema a.root) is.1)
     ∙ ap (λ (n : ℕ). Err (ends.Limit limit.Depth n)) (sym is.0)
 limit_is told a limit.Schema quantity is = absurd is
+limit_is told a limit.Cells quantity is = absurd is
+limit_is told a limit.Held quantity is = absurd is
 limit_is told a limit.Schemas quantity is = absurd is
 limit_is told a limit.Rows quantity is =
     flat told a is.1

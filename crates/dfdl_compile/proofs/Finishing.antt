@@ -1,5 +1,5 @@
 -- What rows and their statements come to.
-use Rattle.std.proofs.Common.{◌≡◌, ℕ, ◌+◌, ◌≤◌, List, [], ◌∷◌, map, Bool, Option, Some, None, option_map, Result, Ok, Err, IfOk, IfErr, ap, sym, subst, ◌∙◌, refl}
+use Rattle.std.proofs.Common.{◌≡◌, ℕ, List, map, Bool, Option, Some, None, option_map, Result, Ok, Err, IfOk, IfErr, ap, sym, subst, ◌∙◌, refl}
 use Rattle.dfdl_documents.specs.Documents.{SchemaDocument}
 use Rattle.dfdl_components.specs.declared.site.Site.{Site}
 use Rattle.dfdl_expression_tree.specs.Trees.{Formula}

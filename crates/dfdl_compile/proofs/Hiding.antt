@@ -13,7 +13,7 @@ use Rattle.dfdl_chains.specs.Facts.{facts_at}
 use Rattle.dfdl_chains.specs.Kinds.{kind_at}
 use Rattle.dfdl_chains.specs.Parts.{is_component}
 use Rattle.dfdl_breaches.specs.Hidden.{content_hidden, hidden_name, hiding_at, hiding_for, hiding_named, name_told}
-use Rattle.dfdl_breaches.specs.Judging.{branch_keys_at, key_at, breach_at, built_checks_at, built_settings_at, built_tests_at, calculation_at, count_at, form_of_prefix, framing_at, hidden_at, initiates_at, is_parsed_at, judgement_at, markup_at, measure_at, no_judgement, occurrences_at, others_at, output_at, primitive_at, simple_at, size_at}
+use Rattle.dfdl_breaches.specs.Judging.{branch_keys_at, key_at, breach_at, built_checks_at, built_settings_at, built_tests_at, calculation_at, count_at, form_of_prefix, framing_at, hidden_at, initiates_at, is_parsed_at, judgement_at, markup_at, measure_at, no_judgement, occurrences_at, others_at, output_at, primitive_at, simple_at, size_at, writing_at}
 use Rattle.dfdl_breaches.specs.declared.judgement.Judgement.{Judgement}
 use Rattle.dfdl_breaches.specs.Roots.{chain_at}
 use Rattle.dfdl_breaches.specs.declared.hiding.Hiding.TheVariants.{NoGroup}
@@ -42,6 +42,7 @@ judgement_if purpose refused documents own b =
       count = count_at purpose refused documents own;
       key = key_at purpose refused documents own;
       keys = branch_keys_at purpose refused documents own;
+      writing = writing_at purpose refused documents own;
       hidden = hidden_at purpose documents own;
     } else no_judgement
 

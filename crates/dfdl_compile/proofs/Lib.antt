@@ -11,4 +11,5 @@ mod Typed
 mod Bare
 mod Rooted
 mod Finishing
+mod Complete
 mod Coming

@@ -14,7 +14,6 @@ use Rattle.dfdl_chains.specs.Derivation.{type_of as element_type}
 use Rattle.dfdl_chains.specs.Kinds.{kind_at, kind_by, kind_of_type}
 use Rattle.dfdl_breaches.specs.Judging.{judgement_at}
 use Rattle.dfdl_breaches.proofs.Numbering.{value-at}
-use Rattle.dfdl_terms.specs.Leaves.{calculated}
 use Rattle.dfdl_terms.specs.Framing.{no_fill}
 use Rattle.dfdl_terms.specs.Rows.{IsElementRow}
 use Rattle.dfdl_terms.specs.declared.row.Row.{Row}

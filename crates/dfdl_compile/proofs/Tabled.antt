@@ -27,13 +27,11 @@ use Rattle.dfdl_terms.specs.declared.prefix.Measure.{Measure}
 use Rattle.dfdl_terms.specs.declared.prefix.Prefix.{Prefix}
 use Rattle.dfdl_terms.specs.Rows.{AreWithin, AreStatements, IsWithin}
 use Rattle.dfdl_terms.specs.declared.row.Primitive.{Primitive}
-use Rattle.dfdl_terms.specs.declared.row.Row.TheVariants.{Choice}
 use Rattle.dfdl_rows.specs.Components.{HasKeyQuestion, Schema, HasDelimiters, HasList, HasPrimitive, HasBoxPrimitive, HasBoxQuestion, HasLeafQuestion, HasPrefixPrimitive, HasSeparators, HasStatements}
 use Rattle.dfdl_rows.specs.declared.component.BranchKey.{BranchKey}
 use Rattle.dfdl_rows.specs.declared.component.Dispatch.{Dispatch}
 use Rattle.dfdl_rows.specs.Times.{question_of}
 use Rattle.dfdl_rows.specs.declared.component.Separated.{Separated}
-use Rattle.dfdl_rows.specs.declared.component.Component.TheVariants.{Sequence, SimpleElement, CalculatedElement}
 use Rattle.dfdl_compile.specs.Empties.{is_framed_alike, reads_as_normal}
 use Rattle.dfdl_compile.specs.Components.{box_by, branch_keys, choice_by, component_at, dispatch_at, dispatch_with, keys_at, parts_by, components_of, counted_by, delimiters_of, empty_number, framing_of, initiator_list_at, leaf_length_by, measure_by, nil_number, number_if, prefix_by, prefix_number, primitives_of, separator_list_at, separator_number, terminator_list_at, terminator_number, tried_by, tried_number}
 use Rattle.dfdl_compile.specs.Statements.{before_by, behind_by, calculation_number, count_by, count_if, count_number, counted, first_statement, is_set_first, judgements_of, key_number, measure_number, noted_of, opening_count, openings_by, settings_by}

@@ -1,5 +1,5 @@
 -- Each simple element is read by a primitive of its type, or its value is calculated by a statement of its type.
-use Rattle.std.proofs.Common.{◌≡◌, ℕ, ◌+◌, ◌<◌, Bool, false, List, ◌++◌, length, length-append, map, slice_get, get_or, Option, None, Some, option_map, ap, sym, subst, ◌∙◌, arith}
+use Rattle.std.proofs.Common.{◌≡◌, ℕ, ◌<◌, Bool, false, List, ◌++◌, length, length-append, map, slice_get, get_or, Option, None, Some, option_map, ap, sym, subst, ◌∙◌, arith}
 use Rattle.std.proofs.lemmas.List.{length-map, get_or_append_left}
 use Rattle.std.proofs.lemmas.Option.{slice_get-map, slice_get-get_or, slice_get_within}
 use Rattle.dfdl_forms.specs.declared.simple.Simple.{Simple}
@@ -31,12 +31,12 @@ use Rattle.dfdl_rows.specs.declared.component.LeafLength.{LeafLength}
 use Rattle.dfdl_rows.specs.declared.component.Separated.{Separated}
 use Rattle.dfdl_rows.specs.Leaves.{HaveLeaves, HaveBareLeaves, IsAmong, IsCalculated, IsLeafOf}
 use Rattle.dfdl_rows.specs.declared.component.Component.{Component}
-use Rattle.dfdl_rows.specs.declared.component.Component.TheVariants.{Sequence, SimpleElement, CalculatedElement}
+use Rattle.dfdl_rows.specs.declared.component.Component.TheVariants.{SimpleElement, CalculatedElement}
 use Rattle.dfdl_compile.specs.Components.{choice_by, component_at, components_of, empty_primitive_at, framing_of, nil_primitive_at, prefix_primitive_at, primitive_at, primitives_of, separator_number, tried_primitive_at}
 use Rattle.dfdl_compile.specs.Statements.{first_statement, noted_of, calculation_number}
 use Rattle.dfdl_compile.specs.Delimiters.{separated_by}
 use Rattle.dfdl_compile.specs.Primitives.{CalculatesType, HasTypedLeaves, HasBareTypedLeaves, IsLeafOfType, IsOfType, a_byte}
-use Rattle.dfdl_compile.proofs.Fitting.{all_within, by_component, each, of_kind}
+use Rattle.dfdl_compile.proofs.Fitting.{all_within, by_component, of_kind}
 use Rattle.std.specs.List.{AllZip}
 use Rattle.dfdl_written.specs.Noting.{calculated_type}
 use Rattle.dfdl_statements.specs.declared.written.Source.TheVariants as source

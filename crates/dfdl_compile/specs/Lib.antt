@@ -10,3 +10,5 @@ pub mod Builds
 pub mod Faults
 pub mod FaultsShown
 pub mod Shown
+pub mod Whole
+pub mod WholeShown

@@ -5,7 +5,7 @@ ghost use Rattle.dfdl_terms.specs.Rows.{HasElementLast, HasPlainRows, IsPrimitiv
 ghost use Rattle.dfdl_terms.specs.Tables.{Named};
 ghost use Rattle.dfdl_rows.specs.Leaves.{HaveBareLeaves, HaveLeaves};
 ghost use Rattle.dfdl_report.specs.declared.cause.SchemaCause.TheVariants.{Recursive};
-ghost use Rattle.dfdl_components.specs.Rules.{AllKeep, loading_rules};
+ghost use Rattle.dfdl_components.specs.Recursion.{number_of};
 ghost use Rattle.dfdl_components.specs.Sites.{IsSite, role_of};
 ghost use Rattle.dfdl_components.specs.declared.site.Site as declared_site;
 ghost use Rattle.dfdl_chains.specs.Everywhere as everywhere;
@@ -15,14 +15,14 @@ ghost use Rattle.dfdl_compile.specs.declared.fault.CompileFault.TheVariants.{Ref
 ghost use Rattle.dfdl_variables.specs.Variables.{variables_of};
 ghost use Rattle.dfdl_written.specs.Noting.{IsNotedWithin, noted_each, stated_by};
 ghost use Rattle.dfdl_compile.specs.Components.{components_of, delimiters_of, primitives_of};
-ghost use Rattle.dfdl_compile.specs.Builds.{ComesTo, ComesToFault};
 ghost use Rattle.dfdl_compile.specs.Compiled.{by_root, first_recursive, laid, told_of};
 ghost use Rattle.dfdl_compile.specs.Delimiters.{initiator_list_by, separator_list_by, terminator_list_by};
 ghost use Rattle.dfdl_compile.specs.Primitives.{HasTypedLeaves, HasBareTypedLeaves, HasWrittenText, empty_primitive_by, nil_primitive_by, prefix_primitive_by, primitive_by, tried_primitive_by};
 ghost use Rattle.dfdl_compile.specs.Settling.{Ends, Settles};
 ghost use Rattle.dfdl_compile.specs.Statements.{noted_of};
+ghost use Rattle.dfdl_compile.specs.Whole.{IsOfOne, writing_by, writings_of};
 ghost use Rattle.dfdl_checks.specs.Forms.{IsWhole};
-ghost use Rattle.dfdl_checks.specs.declared.purpose.Purpose.TheVariants.{Parsing, Unparsing};
+ghost use Rattle.dfdl_checks.specs.declared.purpose.Purpose.TheVariants.{Unparsing};
 ghost use Rattle.dfdl_chains.specs.Everywhere.{for_each};
 ghost use Rattle.dfdl_breaches.specs.Judging.{judgement_at};
 ghost use Rattle.dfdl_breaches.specs.Roots.{is_global_element};
@@ -35,22 +35,22 @@ use crate::gathering::{components, refusals};
 use crate::parts::{place_at, places, uses};
 use crate::primitives::{Naming, named};
 use crate::settling::{SettledRows, settle_rows};
+use crate::whole::{CompiledSchema, with_terms};
+use dfdl_breaches::Judgement;
 use dfdl_breaches::laws::{
     calculated_elements_are_simple, hidden_groups_are_within,
     sound_elements_have_bounded_primitives, statements_are_for_parsing, told_statements_are_within,
 };
-use dfdl_breaches::{Judgement, breaches, root_of};
 use dfdl_chains::{Numbers, all_sites};
 use dfdl_checks::Purpose;
 use dfdl_components::{Schema, Site};
-use dfdl_edge::Patterns;
 use dfdl_order::laws::nothing_in_an_order_reaches_itself;
 use dfdl_order::{OrderFault, Uses, order_of};
 use dfdl_report::{Place, SchemaCause};
 use dfdl_rows::{
     Component, Components, LaidRows, Refusal, RefusedRow, RowsFault, rows_of, terms_from,
 };
-use dfdl_terms::{Delimiters, Primitive, Row, Tables, Terms};
+use dfdl_terms::{Delimiters, Primitive, Row, Tables, Terms, Writing};
 use dfdl_variables::{Declared, variables_of};
 use dfdl_written::{Noted, definitions, note};
 use std::alloc::{AllocError, Global};
@@ -170,7 +170,15 @@ fn ordered(alloc: Global, schema: &Schema, gathered: Gathered) -> Result<Compone
     }
 }
 
-// The rows of a schema with this root, of whose elements this is told, and the first refusal of a component, or why there are no rows.
+// The rows of a root, with the first refusal of a component, and the components that they come from.
+#[derive(Drop)]
+struct LaidSchema {
+    rows: Vec<Row>,
+    refused: Option<RefusedRow>,
+    components: Components,
+}
+
+// The same of a schema with this root, of whose elements this is told, or why there are no rows.
 fn lay(
     alloc: Global,
     schema: &Schema,
@@ -180,7 +188,7 @@ fn lay(
     root: Site,
     depth: u32,
     rows: u32,
-) -> Result<LaidRows, CompileFault>
+) -> Result<LaidSchema, CompileFault>
     requires told { (refused : declared_site.Site → Bool)
         × (judgements.now ≡ for_each schema.now (judgement_at purpose refused schema.now)) }
     requires numbers { AreNumbers schema.now numbers.now }
@@ -200,6 +208,9 @@ fn lay(
         → (named : Named) → named.primitives ≡ primitives_of purpose refused schema.now → named.delimiters ≡ delimiters_of purpose refused schema.now
         → length named.statements ≡ length (noted_of purpose refused schema.now)
         → IfOk result (λ made. All (NamesWithin named) made.rows.items) }
+    ensures components { (refused : declared_site.Site → Bool)
+        → judgements.now ≡ for_each schema.now (judgement_at purpose refused schema.now)
+        → IfOk result (λ made. made.components ≡ components_of purpose refused schema.now) }
     ensures element { IfOk result (λ made. EndsWithElement made.rows.items) }
     ensures leaves { (refused : declared_site.Site → Bool)
         → judgements.now ≡ for_each schema.now (judgement_at purpose refused schema.now)
@@ -216,7 +227,17 @@ fn lay(
     let components = ordered(alloc, schema, gathered)?;
     let number = numbers.number(schema, root);
     match rows_of(alloc, &components, number, depth, rows) {
-        Ok(made) => Ok(made),
+        Ok(made) => {
+            let LaidRows {
+                rows: laid,
+                refused,
+            } = made;
+            Ok(LaidSchema {
+                rows: laid,
+                refused,
+                components,
+            })
+        }
         Err(fault) => Err(fault_of(fault)),
     }
 }
@@ -229,6 +250,13 @@ struct ToldLists {
     noted: Vec<Noted>,
 }
 
+// The same, and how the elements are written.
+#[derive(Drop)]
+struct ToldSchema {
+    lists: ToldLists,
+    writings: Vec<Writing>,
+}
+
 // The same of a schema with these variables, of whose elements this is told.
 fn tell(
     alloc: Global,
@@ -236,33 +264,38 @@ fn tell(
     numbers: &Numbers,
     variables: &[Declared],
     judgements: Vec<Judgement>,
-) -> Result<ToldLists, AllocError>
+) -> Result<ToldSchema, AllocError>
     requires numbers { AreNumbers schema.now numbers.now }
     requires variables { variables.now ≡ variables_of schema.now }
     requires told { length judgements.items ≡ length (everywhere.all_sites schema.now) }
     requires stated { All (IsStatedWithin schema.now) judgements.items }
-    ensures primitives { IfOk result (λ told. told.primitives.items ≡ map primitive_by judgements.items
+    ensures primitives { IfOk result (λ told. told.lists.primitives.items ≡ map primitive_by judgements.items
         ++ (map prefix_primitive_by judgements.items
         ++ (map nil_primitive_by judgements.items
         ++ (map empty_primitive_by judgements.items ++ map tried_primitive_by judgements.items)))) }
-    ensures delimiters { IfOk result (λ told. told.delimiters.items ≡ map initiator_list_by judgements.items
+    ensures delimiters { IfOk result (λ told. told.lists.delimiters.items ≡ map initiator_list_by judgements.items
         ++ (map terminator_list_by judgements.items ++ map separator_list_by judgements.items)) }
-    ensures noted { IfOk result (λ told. told.noted.items
+    ensures noted { IfOk result (λ told. told.lists.noted.items
         ≡ noted_each schema.now (everywhere.all_sites schema.now) (map stated_by judgements.items)) }
-    ensures within { IfOk result (λ told. All (IsNotedWithin schema.now) told.noted.items) }
-    ensures written { IfOk result (λ told. All HasWrittenText told.primitives.items) }
+    ensures within { IfOk result (λ told. All (IsNotedWithin schema.now) told.lists.noted.items) }
+    ensures written { IfOk result (λ told. All HasWrittenText told.lists.primitives.items) }
+    ensures writings { IfOk result (λ told. told.writings.items ≡ map writing_by judgements.items) }
 {
     let sites = all_sites(alloc, schema)?;
     let Naming {
         primitives,
         delimiters,
         stated,
+        writings,
     } = named(alloc, judgements)?;
     let noted = note(alloc, schema, numbers, variables, sites.as_slice(), stated)?;
-    Ok(ToldLists {
-        primitives,
-        delimiters,
-        noted,
+    Ok(ToldSchema {
+        lists: ToldLists {
+            primitives,
+            delimiters,
+            noted,
+        },
+        writings,
     })
 }
 
@@ -310,9 +343,9 @@ fn finish(
     Ok(terms_from(alloc, rows, tables))
 }
 
-// The terms of a schema with this root, of whose elements this is told, or why it has none.
+/// A schema with this root, of whose elements this is told, or why it has no terms.
 #[tactic(auto, using(crate::proofs::Finishing::rows_fault))]
-fn compile_root(
+pub(crate) fn compile_root(
     alloc: Global,
     schema: &Schema,
     purpose: Purpose,
@@ -320,7 +353,7 @@ fn compile_root(
     root: Site,
     depth: u32,
     rows: u32,
-) -> Result<Terms, CompileFault>
+) -> Result<CompiledSchema, CompileFault>
     requires told { (refused : declared_site.Site → Bool)
         × (judgements.items ≡ for_each schema.now (judgement_at purpose refused schema.now)) }
     requires within { IsSite schema.now root }
@@ -328,22 +361,31 @@ fn compile_root(
     requires few { rows ≤ most_rows }
     ensures rows { (refused : declared_site.Site → Bool)
         → judgements.items ≡ for_each schema.now (judgement_at purpose refused schema.now)
-        → IfOk result (λ t. Ends schema.now (by_root purpose refused schema.now depth rows (Some root)) (Ok t)) }
+        → IfOk result (λ whole. Ends schema.now (by_root purpose refused schema.now depth rows (Some root)) (Ok whole.terms)) }
     ensures fault { (refused : declared_site.Site → Bool)
         → judgements.items ≡ for_each schema.now (judgement_at purpose refused schema.now)
         → IfErr result (IsEndFault schema.now (by_root purpose refused schema.now depth rows (Some root))) }
-    ensures element { IfOk result HasElementLast }
-    ensures leaves { IfOk result HasTypedLeaves }
-    ensures whole { purpose ≡ Unparsing → IfOk result (λ t. All IsWhole t.primitives) }
-    ensures bare { purpose ≡ Unparsing → IfOk result HasBareTypedLeaves }
-    ensures plain { purpose ≡ Unparsing → IfOk result (λ t. HasPlainRows t.rows) }
+    ensures components { (refused : declared_site.Site → Bool)
+        → judgements.items ≡ for_each schema.now (judgement_at purpose refused schema.now)
+        → IfOk result (λ whole. whole.components ≡ components_of purpose refused schema.now) }
+    ensures root { IfOk result (λ whole. whole.root ≡ number_of schema.now root) }
+    ensures writings { (refused : declared_site.Site → Bool)
+        → judgements.items ≡ for_each schema.now (judgement_at purpose refused schema.now)
+        → IfOk result (λ whole. whole.writings.items ≡ writings_of purpose refused schema.now) }
+    ensures of_one { IfOk result IsOfOne }
+    ensures element { IfOk result (λ whole. HasElementLast whole.terms) }
+    ensures leaves { IfOk result (λ whole. HasTypedLeaves whole.terms) }
+    ensures whole { purpose ≡ Unparsing → IfOk result (λ whole. All IsWhole whole.terms.primitives) }
+    ensures bare { purpose ≡ Unparsing → IfOk result (λ whole. HasBareTypedLeaves whole.terms) }
+    ensures plain { purpose ≡ Unparsing → IfOk result (λ whole. HasPlainRows whole.terms.rows) }
 {
     sound_elements_have_bounded_primitives();
     told_statements_are_within();
     let numbers = Numbers::of(alloc, schema)?;
-    let LaidRows {
+    let LaidSchema {
         rows: made,
         refused,
+        components,
     } = lay(
         alloc,
         schema,
@@ -355,87 +397,10 @@ fn compile_root(
         rows,
     )?;
     let variables = variables_of(alloc, schema, &numbers)?;
-    let told = tell(alloc, schema, &numbers, variables.as_slice(), judgements)?;
-    finish(alloc, schema, made, refused, told, variables)
-}
-
-// The terms of a schema for a purpose. The patterns of all elements are built, reached or not.
-fn compile_for<P: Patterns>(
-    alloc: Global,
-    schema: &Schema,
-    purpose: Purpose,
-    depth: u32,
-    rows: u32,
-    patterns: &mut P,
-) -> Result<Terms, CompileFault>
-    requires keeps { AllKeep (loading_rules schema.now) schema.now }
-    requires few { rows ≤ most_rows }
-    ensures rows { IfOk result (λ t. ComesTo purpose schema.now depth rows
-        (record { faults = P.faults patterns.old; last = P.last_refused patterns.old })
-        (record { faults = P.faults patterns.new; last = P.last_refused patterns.new }) (Ok t)) }
-    ensures fault { IfErr result (ComesToFault purpose schema.now depth rows
-        (record { faults = P.faults patterns.old; last = P.last_refused patterns.old })
-        (record { faults = P.faults patterns.new; last = P.last_refused patterns.new })) }
-    ensures element { IfOk result HasElementLast }
-    ensures leaves { IfOk result HasTypedLeaves }
-    ensures whole { purpose ≡ Unparsing → IfOk result (λ t. All IsWhole t.primitives) }
-    ensures bare { purpose ≡ Unparsing → IfOk result HasBareTypedLeaves }
-    ensures plain { purpose ≡ Unparsing → IfOk result (λ t. HasPlainRows t.rows) }
-{
-    let judgements = breaches(alloc, schema, purpose, patterns)?;
-    match root_of(schema) {
-        Some(root) => compile_root(alloc, schema, purpose, judgements, root, depth, rows),
-        None => Err(CompileFault::Refused {
-            cause: SchemaCause::NameNotFound,
-            place: Place { document: 0, at: 0 },
-        }),
-    }
-}
-
-/// The terms by which data of a schema are parsed, whose documents keep the rules of loading. Elements may be nested in
-/// one another `depth` deep, and there may be `rows` rows. The patterns of lengths are built by `patterns`, each once.
-pub fn compile<P: Patterns>(
-    alloc: Global,
-    schema: &Schema,
-    depth: u32,
-    rows: u32,
-    patterns: &mut P,
-) -> Result<Terms, CompileFault>
-    requires keeps { AllKeep (loading_rules schema.now) schema.now }
-    requires few { rows ≤ most_rows }
-    ensures rows { IfOk result (λ t. ComesTo Parsing schema.now depth rows
-        (record { faults = P.faults patterns.old; last = P.last_refused patterns.old })
-        (record { faults = P.faults patterns.new; last = P.last_refused patterns.new }) (Ok t)) }
-    ensures fault { IfErr result (ComesToFault Parsing schema.now depth rows
-        (record { faults = P.faults patterns.old; last = P.last_refused patterns.old })
-        (record { faults = P.faults patterns.new; last = P.last_refused patterns.new })) }
-    ensures element { IfOk result HasElementLast }
-    ensures leaves { IfOk result HasTypedLeaves }
-{
-    compile_for(alloc, schema, Purpose::Parsing, depth, rows, patterns)
-}
-
-/// The terms by which infosets of a schema are unparsed, under the same conditions. Fewer forms are built for unparsing:
-/// each leaf is a whole unsigned integer, and there is neither fill nor a box nor a length prefix, and no pattern is built.
-pub fn compile_for_unparse<P: Patterns>(
-    alloc: Global,
-    schema: &Schema,
-    depth: u32,
-    rows: u32,
-    patterns: &mut P,
-) -> Result<Terms, CompileFault>
-    requires keeps { AllKeep (loading_rules schema.now) schema.now }
-    requires few { rows ≤ most_rows }
-    ensures rows { IfOk result (λ t. ComesTo Unparsing schema.now depth rows
-        (record { faults = P.faults patterns.old; last = P.last_refused patterns.old })
-        (record { faults = P.faults patterns.new; last = P.last_refused patterns.new }) (Ok t)) }
-    ensures fault { IfErr result (ComesToFault Unparsing schema.now depth rows
-        (record { faults = P.faults patterns.old; last = P.last_refused patterns.old })
-        (record { faults = P.faults patterns.new; last = P.last_refused patterns.new })) }
-    ensures element { IfOk result HasElementLast }
-    ensures leaves { IfOk result HasBareTypedLeaves }
-    ensures whole { IfOk result (λ t. All IsWhole t.primitives) }
-    ensures plain { IfOk result (λ t. HasPlainRows t.rows) }
-{
-    compile_for(alloc, schema, Purpose::Unparsing, depth, rows, patterns)
+    let ToldSchema {
+        lists: told,
+        writings,
+    } = tell(alloc, schema, &numbers, variables.as_slice(), judgements)?;
+    let terms = finish(alloc, schema, made, refused, told, variables);
+    with_terms(terms, components, numbers.number(schema, root), writings)
 }

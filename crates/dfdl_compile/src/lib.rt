@@ -2,9 +2,11 @@
 //!
 //! `specs/Components.antt` says which components the elements of the documents are, `specs/Compiled.antt` what a schema comes to, its rows or
 //! the first reason why it has none, and `specs/Settling.antt` what its statements come to then, which the contracts of `compile` and
-//! `compile_for_unparse` cite. The chapters are 'DFDL Schema Component Model' and 'DFDL Data Syntax Grammar'.
+//! `compile_for_unparse` cite. `compile_for_both` gives with these terms what unparsing asks of the schema besides, by `specs/Whole.antt`. The
+//! chapters are 'DFDL Schema Component Model' and 'DFDL Data Syntax Grammar'.
 #![tactic(auto)]
 
+mod calls;
 mod compiling;
 mod empties;
 mod fault;
@@ -15,6 +17,8 @@ mod parts;
 mod primitives;
 mod settling;
 mod stating;
+mod whole;
 
-pub use compiling::{compile, compile_for_unparse};
+pub use calls::{compile, compile_for_both, compile_for_unparse};
 pub use fault::CompileFault;
+pub use whole::CompiledSchema;

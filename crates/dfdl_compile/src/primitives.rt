@@ -1,9 +1,10 @@
 // What the rows of a schema name: the primitives that its leaves, their length prefixes and their other representations are read by, the
-// literals of its delimiters, and its tests.
+// literals of its delimiters, its tests, and how its components are written.
 ghost use Rattle.std.specs.Prelude.{◌≡◌, [], ◌++◌, All, IfOk, map, unwrap_or};
 ghost use Rattle.dfdl_checks.specs.Numbers as numbers;
 ghost use Rattle.dfdl_compile.specs.Delimiters as delimiters;
 ghost use Rattle.dfdl_compile.specs.Primitives as spec;
+ghost use Rattle.dfdl_compile.specs.Whole.{writing_by};
 ghost use Rattle.dfdl_written.specs.Noting.{stated_by};
 
 use dfdl_breaches::Judgement;
@@ -12,7 +13,7 @@ use dfdl_forms::{
     BitOrder, BitTruthForm, ByteOrder, Encoding, Form, IntForm, Justify, Literals, PadForm, Simple,
 };
 use dfdl_terms::row::default_is_written;
-use dfdl_terms::{Delimiters, OctetForm, Primitive, TextContent, TextForm, TextSize};
+use dfdl_terms::{Delimiters, OctetForm, Primitive, TextContent, TextForm, TextSize, Writing};
 use dfdl_written::Stated;
 use std::alloc::{AllocError, Global};
 
@@ -229,7 +230,7 @@ fn separator_list_if(alloc: Global, separator: Option<Separating>) -> Delimiters
 }
 
 // What some elements name: the primitives of their values, and of their prefixes and other representations, and the literals of
-// their delimiters; and what they state.
+// their delimiters; what they state, and how they are written.
 #[derive(Drop)]
 struct Lists {
     own: Vec<Primitive>,
@@ -241,6 +242,7 @@ struct Lists {
     terminators: Vec<Delimiters>,
     separators: Vec<Delimiters>,
     stated: Vec<Stated>,
+    writings: Vec<Writing>,
 }
 
 impl Lists {
@@ -254,6 +256,7 @@ impl Lists {
         ensures terminators { result.terminators.items ≡ [] }
         ensures separators { result.separators.items ≡ [] }
         ensures stated { result.stated.items ≡ [] }
+        ensures writings { result.writings.items ≡ [] }
     {
         Lists {
             own: Vec::new(alloc),
@@ -265,6 +268,7 @@ impl Lists {
             terminators: Vec::new(alloc),
             separators: Vec::new(alloc),
             stated: Vec::new(alloc),
+            writings: Vec::new(alloc),
         }
     }
 }
@@ -280,6 +284,7 @@ fn lists_of(alloc: Global, judgements: Vec<Judgement>) -> Result<Lists, AllocErr
     ensures terminators { IfOk result (λ lists. lists.terminators.items ≡ map delimiters.terminator_list_by judgements.items) }
     ensures separators { IfOk result (λ lists. lists.separators.items ≡ map delimiters.separator_list_by judgements.items) }
     ensures stated { IfOk result (λ lists. lists.stated.items ≡ map stated_by judgements.items) }
+    ensures writings { IfOk result (λ lists. lists.writings.items ≡ map writing_by judgements.items) }
 {
     let mut lists = Lists::new(alloc);
     for judgement in judgements {
@@ -297,6 +302,7 @@ fn lists_of(alloc: Global, judgements: Vec<Judgement>) -> Result<Lists, AllocErr
             measure,
             count,
             key,
+            writing,
             ..
         } = judgement;
         lists.own.push(primitive_or(primitive, simple))?;
@@ -323,21 +329,23 @@ fn lists_of(alloc: Global, judgements: Vec<Judgement>) -> Result<Lists, AllocErr
             count,
             key,
         })?;
+        lists.writings.push(writing)?;
     }
     Ok(lists)
 }
 
-/// What the rows of elements name of which this is told, and what these state.
+/// What the rows of elements name of which this is told, what these state, and how they are written.
 #[derive(Drop)]
 pub(crate) struct Naming {
     pub(crate) primitives: Vec<Primitive>,
     pub(crate) delimiters: Vec<Delimiters>,
     pub(crate) stated: Vec<Stated>,
+    pub(crate) writings: Vec<Writing>,
 }
 
 /// What the rows of elements name of which this is told: their primitives, and behind them those of their length prefixes, of their nil
 /// representations and of the empty ones of their required and of their tried occurrences; the literals of their initiators, and behind them those of their terminators and separators;
-/// and what they state.
+/// what they state, and how they are written.
 pub(crate) fn named(alloc: Global, judgements: Vec<Judgement>) -> Result<Naming, AllocError>
     ensures primitives { IfOk result (λ named. named.primitives.items ≡ map spec.primitive_by judgements.items
         ++ (map spec.prefix_primitive_by judgements.items
@@ -346,6 +354,7 @@ pub(crate) fn named(alloc: Global, judgements: Vec<Judgement>) -> Result<Naming,
     ensures delimiters { IfOk result (λ named. named.delimiters.items ≡ map delimiters.initiator_list_by judgements.items
         ++ (map delimiters.terminator_list_by judgements.items ++ map delimiters.separator_list_by judgements.items)) }
     ensures stated { IfOk result (λ named. named.stated.items ≡ map stated_by judgements.items) }
+    ensures writings { IfOk result (λ named. named.writings.items ≡ map writing_by judgements.items) }
     ensures written { IfOk result (λ named. All spec.HasWrittenText named.primitives.items) }
 {
     let Lists {
@@ -358,6 +367,7 @@ pub(crate) fn named(alloc: Global, judgements: Vec<Judgement>) -> Result<Naming,
         mut terminators,
         mut separators,
         stated,
+        writings,
     } = lists_of(alloc, judgements)?;
     empties.append(&mut tried)?;
     nils.append(&mut empties)?;
@@ -370,5 +380,6 @@ pub(crate) fn named(alloc: Global, judgements: Vec<Judgement>) -> Result<Naming,
         primitives: own,
         delimiters: initiators,
         stated,
+        writings,
     })
 }

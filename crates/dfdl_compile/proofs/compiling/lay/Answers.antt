@@ -46,8 +46,8 @@ returns-in-Ok-clause-rows c = λ refused told.
     (c.in_ok-components.ensures.none refused (c.in_ok-gathered.ensures.gathered refused told)))
     c.in-Ok.ensures.rows
 
-pub returns-clause-fault : goal.returns-clause-fault
-returns-clause-fault c = λ refused told.
+pub returns-in-Err-clause-fault : goal.returns-in-Err-clause-fault
+returns-in-Err-clause-fault c = λ refused told.
     subst (IsFaultOf (by_root c.args.purpose refused c.args.schema.now c.args.depth c.args.rows (Some c.args.root))) (sym c.fault_of.ensures)
     (root_fault c.args.purpose refused c.args.schema.now c.args.depth c.args.rows c.args.root c.in_ok-components.components c.number-number.result c.in-Err.fault
     (c.in_ok-components.ensures.components refused (c.in_ok-gathered.ensures.gathered refused told)
@@ -97,3 +97,8 @@ returns-in-Ok-clause-plain c = λ unparsing.
     c.in-Ok.ensures.plain (bare_components refused c.args.schema.now c.sound_elements_have_bounded_primitives.ensures.parsing
     c.statements_are_for_parsing.ensures.tests c.statements_are_for_parsing.ensures.checks c.statements_are_for_parsing.ensures.calculated c.statements_are_for_parsing.ensures.settings
     c.statements_are_for_parsing.ensures.hidden c.statements_are_for_parsing.ensures.unmeasured c.statements_are_for_parsing.ensures.uncounted c.args.purpose c.in_ok-components.components unparsing schema_is)
+
+pub returns-in-Ok-clause-components : goal.returns-in-Ok-clause-components
+returns-in-Ok-clause-components c = λ refused told.
+    c.in_ok-components.ensures.components refused (c.in_ok-gathered.ensures.gathered refused told)
+    ∙ ap (λ (q : Purpose). components_of q refused c.args.schema.now) c.in_ok-gathered.ensures.purpose

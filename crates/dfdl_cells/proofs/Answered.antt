@@ -19,19 +19,19 @@ use Rattle.dfdl_cells.specs.declared.step.Step.{Step}
 use Rattle.dfdl_cells.specs.declared.step.Step.TheVariants.{Fixed, Align, Marked, Length, Separator}
 
 -- one question behind another
-behind_onward : {A B : Type 0} (first : Result A Stop) (next : A → Result B Stop) (go : B → Gives Held)
+pub behind_onward : {A B : Type 0} (first : Result A Stop) (next : A → Result B Stop) (go : B → Gives Held)
     → behind (onward first next) go ≡ behind first (λ a. behind (next a) go)
 behind_onward (Ok a) next go = refl
 behind_onward (Err (Wait cell)) next go = refl
 behind_onward (Err (Fault cause)) next go = refl
 
-behind_same : {A : Type 0} (answer : Result A Stop) (go other : A → Gives Held) → ((a : A) → go a ≡ other a) → behind answer go ≡ behind answer other
+pub behind_same : {A : Type 0} (answer : Result A Stop) (go other : A → Gives Held) → ((a : A) → go a ≡ other a) → behind answer go ≡ behind answer other
 behind_same (Ok a) go other same = same a
 behind_same (Err (Wait cell)) go other same = refl
 behind_same (Err (Fault cause)) go other same = refl
 
 -- a question, and behind its answer another one
-abbrev chained : {A B : Type 0} (known : List (Option Held)) (asked : (A → Asks Held) → Asks Held) (then_asked : A → (B → Asks Held) → Asks Held)
+abbrev pub chained : {A B : Type 0} (known : List (Option Held)) (asked : (A → Asks Held) → Asks Held) (then_asked : A → (B → Asks Held) → Asks Held)
     (first : Result A Stop) (next : A → Result B Stop) → Answers asked known first → ((a : A) → Answers (then_asked a) known (next a))
     → Answers (λ (go : B → Asks Held). asked (λ a. then_asked a go)) known (onward first next)
 chained known asked then_asked first next is behind_it = record {
@@ -42,7 +42,7 @@ chained known asked then_asked first next is behind_it = record {
 }
 
 -- what needs no question
-at_once : {A : Type 0} (known : List (Option Held)) (a : A) → Answers (λ (go : A → Asks Held). go a) known (Ok a)
+pub at_once : {A : Type 0} (known : List (Option Held)) (a : A) → Answers (λ (go : A → Asks Held). go a) known (Ok a)
 at_once known a = record { gives_so = λ go. refl }
 
 module _ (known : List (Option Held)) where

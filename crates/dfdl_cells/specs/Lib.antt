@@ -1,4 +1,5 @@
 pub mod Books
+pub mod Growing
 pub mod Plans
 pub mod Values
 pub mod Lengths
@@ -8,3 +9,7 @@ pub mod Separators
 pub mod Equations
 pub mod Asking
 pub mod Answers
+pub mod Sound
+pub mod Growth
+pub mod Staying
+pub mod Settling

@@ -17,7 +17,7 @@ pub enum Stop {
 
 /// What a simple element is ('The DFDL Information Set').
 #[derive(Clone, Copy)]
-pub(crate) enum Told<'a> {
+pub enum Told<'a> {
     Nil,
     Is(&'a Value),
 }
@@ -33,7 +33,7 @@ fn number_in(held: &Held) -> u64
 }
 
 /// The number of an unknown.
-pub(crate) fn number(known: &Known, cell: CellId) -> Result<u64, Stop>
+pub fn number(known: &Known, cell: CellId) -> Result<u64, Stop>
     ensures { result ≡ asking.number known.now cell }
 {
     match known.get(cell) {
@@ -54,11 +54,7 @@ fn told_in(one: Option<&Cell>) -> Result<Told<'_>, Stop>
 }
 
 /// What the simple element is whose first unknown this is.
-pub(crate) fn value<'a>(
-    cells: &'a [Cell],
-    known: &'a Known,
-    first: CellId,
-) -> Result<Told<'a>, Stop>
+pub fn value<'a>(cells: &'a [Cell], known: &'a Known, first: CellId) -> Result<Told<'a>, Stop>
     ensures { answer_shown result ≡ asking.value cells.now known.now first }
 {
     match known.get(first) {

@@ -3,6 +3,7 @@
 use crate::step::Place;
 use dfdl_suspend::CellId;
 use dfdl_value::Value;
+use std::alloc::{AllocError, Global};
 use std::marker::Model;
 
 /// What an unknown is, by which its equation is known ('DFDL Processing Introduction').
@@ -67,7 +68,24 @@ impl Model for CellList {
 }
 
 impl CellList {
-    ghost use Rattle.std.specs.Prelude.{◌≡◌};
+    ghost use Rattle.std.specs.Prelude.{◌≡◌, ◌++◌, ◌∷◌, [], OnOk};
+
+    /// No item.
+    pub fn empty(alloc: Global) -> CellList
+        ensures { result ≡ [] }
+    {
+        CellList {
+            cells: Vec::new(alloc),
+        }
+    }
+
+    /// Adds an item behind the others.
+    pub fn push(&mut self, first: CellId) -> Result<(), AllocError>
+        ensures { OnOk result (self.new ≡ self.old ++ first ∷ []) }
+    {
+        self.cells.push(first)?;
+        Ok(())
+    }
 
     /// Takes the unknowns as they are, and no memory.
     pub fn from_vec(cells: Vec<CellId>) -> CellList

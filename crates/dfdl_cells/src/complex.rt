@@ -2,6 +2,7 @@
 
 use crate::step::Step;
 use dfdl_suspend::CellId;
+use std::alloc::AllocError;
 use std::marker::Model;
 
 /// Steps one behind the other. A contract sees them as their list.
@@ -20,7 +21,7 @@ impl Model for StepList {
 }
 
 impl StepList {
-    ghost use Rattle.std.specs.Prelude.{◌≡◌};
+    ghost use Rattle.std.specs.Prelude.{◌≡◌, ◌++◌, ◌∷◌, [], OnOk};
 
     /// Takes the steps as they are, and no memory.
     pub fn from_vec(steps: Vec<Step>) -> StepList
@@ -33,6 +34,14 @@ impl StepList {
         ensures { result.now ≡ self.now }
     {
         self.steps.as_slice()
+    }
+
+    /// Adds a step behind the others.
+    pub fn push(&mut self, step: Step) -> Result<(), AllocError>
+        ensures { OnOk result (self.new ≡ self.old ++ step ∷ []) }
+    {
+        self.steps.push(step)?;
+        Ok(())
     }
 }
 

@@ -10,14 +10,15 @@ pub mod asking;
 pub mod book;
 pub mod cell;
 pub mod complex;
-mod passing;
+pub mod laws;
+pub mod passing;
 pub mod piece;
-mod placing;
+pub mod placing;
 pub mod step;
 #[cfg(test)]
 mod tests;
 
-pub use asking::Stop;
+pub use asking::{Stop, Told};
 pub use book::{Book, NumberList};
 pub use cell::{Cell, CellList};
 pub use complex::{Complex, StepList};

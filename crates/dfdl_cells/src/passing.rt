@@ -20,7 +20,7 @@ fn is_normal(known: &Known, mark: &Mark) -> Result<bool, Stop>
 }
 
 /// Whether a delimiter of a simple element stands.
-pub(crate) fn stands(cells: &[Cell], known: &Known, mark: &Mark) -> Result<bool, Stop>
+pub fn stands(cells: &[Cell], known: &Known, mark: &Mark) -> Result<bool, Stop>
     ensures { result ≡ asking.stands cells.now known.now mark.now }
 {
     match value(cells, known, mark.value)? {
@@ -29,8 +29,8 @@ pub(crate) fn stands(cells: &[Cell], known: &Known, mark: &Mark) -> Result<bool,
     }
 }
 
-// The next multiple of so many bits.
-fn aligned(bits: u32, n: u64) -> u64
+/// The next multiple of so many bits.
+pub fn aligned(bits: u32, n: u64) -> u64
     ensures { result ≡ places.aligned bits n }
 {
     let bits = u64::from(bits);
@@ -51,8 +51,8 @@ fn marked(mark: &Mark, is_there: bool, n: u64) -> u64
     }
 }
 
-// Behind a step, from so many bits on.
-fn passed(cells: &[Cell], known: &Known, step: &Step, n: u64) -> Result<u64, Stop>
+/// Behind a step, from so many bits on.
+pub fn passed(cells: &[Cell], known: &Known, step: &Step, n: u64) -> Result<u64, Stop>
     ensures { result ≡ asking.passed cells.now known.now step.now n }
 {
     match step {
@@ -74,7 +74,7 @@ fn passed(cells: &[Cell], known: &Known, step: &Step, n: u64) -> Result<u64, Sto
 }
 
 /// Behind steps, one after another.
-pub(crate) fn passed_all(cells: &[Cell], known: &Known, steps: &[Step], n: u64) -> Result<u64, Stop>
+pub fn passed_all(cells: &[Cell], known: &Known, steps: &[Step], n: u64) -> Result<u64, Stop>
     ensures { result ≡ asking.passed_all cells.now known.now steps.now n }
 {
     let mut at = n;

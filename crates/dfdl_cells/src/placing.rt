@@ -42,8 +42,8 @@ fn begin_by(book: &Book, known: &Known, most: usize, around: Option<&Complex>) -
     }
 }
 
-// The begin of the content of the element with parts of a number.
-fn begin(book: &Book, known: &Known, around: Option<u32>) -> Result<u64, Stop>
+/// The begin of the content of the element with parts of a number, in bits of the data.
+pub fn begin(book: &Book, known: &Known, around: Option<u32>) -> Result<u64, Stop>
     ensures { result ≡ asking.begin book.now known.now around }
 {
     begin_by(book, known, book.complexes(), book.complex(around))
@@ -84,8 +84,8 @@ fn passed_in(
     Ok(after.saturating_sub(begin))
 }
 
-// How many bits of its content lie before a place.
-fn bits_before(book: &Book, known: &Known, place: &Place) -> Result<u64, Stop>
+/// How many bits of its content lie before a place.
+pub fn bits_before(book: &Book, known: &Known, place: &Place) -> Result<u64, Stop>
     ensures { result ≡ asking.place book.now known.now place.now }
 {
     let start = start(known, place.after)?;
@@ -94,8 +94,8 @@ fn bits_before(book: &Book, known: &Known, place: &Place) -> Result<u64, Stop>
     passed_in(book, known, place.around, steps, start)
 }
 
-// So many steps in the content of an element with parts, from one on, as far as there are some; the document itself has none.
-fn steps_between(around: Option<&Complex>, first: usize, count: usize) -> &[Step]
+/// So many steps in the content of an element with parts, from one on, as far as there are some; the document itself has none.
+pub fn steps_between(around: Option<&Complex>, first: usize, count: usize) -> &[Step]
     ensures { result.now ≡ take count (drop first (places.steps_in (option_copied around.entry))) }
 {
     let Some(complex) = around else {
@@ -114,8 +114,8 @@ pub fn place_of(book: &Book, known: &Known, place: &Place) -> Result<u64, Stop>
     bits_before(book, known, place)
 }
 
-// How many bits of the data lie before a place.
-fn bits_from_start(book: &Book, known: &Known, place: &Place) -> Result<u64, Stop>
+/// How many bits of the data lie before a place.
+pub fn bits_from_start(book: &Book, known: &Known, place: &Place) -> Result<u64, Stop>
     ensures { result ≡ asking.bit book.now known.now place.now }
 {
     let begin = begin(book, known, place.around)?;

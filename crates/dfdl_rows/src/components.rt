@@ -71,7 +71,7 @@ impl Components {
     }
 
     /// An order in which each component stands behind its parts.
-    pub(crate) fn order(&self) -> &Order
+    pub fn order(&self) -> &Order
         ensures { IsOrder self.now.uses result.now }
     {
         &self.order

@@ -8,7 +8,7 @@ use dfdl_terms::{Delimiter, Framing, Row, RowId, RowList, Statements};
 use std::alloc::{AllocError, Global};
 
 /// There is a test of a pattern, what sets a variable, a skip, an alignment to more than one bit, an initiator or a terminator.
-pub(crate) fn has_framing(framing: Framing) -> bool
+pub fn has_framing(framing: Framing) -> bool
     ensures { result ≡ spec.has_framing framing }
 {
     framing.before.count > 0

@@ -32,5 +32,6 @@ pub use component::{
 };
 pub use components::{Components, are_of_one, have_delimiters, have_primitives, have_statements};
 pub use fault::RowsFault;
+pub use framing::has_framing;
 pub use refusal::{Refusal, RefusedRow};
 pub use rows::{LaidRows, rows_of, terms_from};

@@ -5,15 +5,8 @@ ghost use Rattle.dfdl_splice.specs.Copying.{Copies};
 use dfdl_bits::{ByteOrder, number_at_64, put_number_64};
 use dfdl_forms::BitOrder;
 
-// Copies `count` bits from bit `begin` of `from` on to bit `at` of `to`.
-pub(crate) fn copy_bits(
-    to: &mut [u8],
-    at: u64,
-    from: &[u8],
-    begin: u64,
-    count: u64,
-    order: BitOrder,
-)
+/// Copies `count` bits from bit `begin` of `from` on to bit `at` of `to`.
+pub fn copy_bits(to: &mut [u8], at: u64, from: &[u8], begin: u64, count: u64, order: BitOrder)
     requires room { at + count ≤ 8 * length to.old }
     requires inside { begin + count ≤ 8 * length from.now }
     requires to_fits { at + count < 2 ^ 64 }

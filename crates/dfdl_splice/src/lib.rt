@@ -11,6 +11,7 @@ mod pack;
 mod splice;
 mod table;
 
+pub use copy::copy_bits;
 pub use dfdl_forms::BitOrder;
 pub use splice::{Full, Splice};
 

@@ -1,0 +1,13 @@
+pub mod Listed
+pub mod Unaligned
+pub mod Counted
+pub mod Coming
+pub mod SlotsAnswered
+pub mod PiecesAnswered
+pub mod CellsAnswered
+pub mod Below
+pub mod CellsBelow
+pub mod BitsAnswered
+pub mod Filled
+pub mod BitsStay
+pub mod OnePiece

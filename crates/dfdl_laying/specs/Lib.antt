@@ -1,0 +1,5 @@
+pub mod Laying
+pub mod Slots
+pub mod Acting
+pub mod Running
+pub mod Good

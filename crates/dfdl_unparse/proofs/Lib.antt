@@ -1,0 +1,12 @@
+mod Filled
+mod Nexts
+mod Packings
+mod Places
+mod Rests
+mod Results
+mod Runnings
+mod Scripted
+mod Starts
+mod Stretches
+mod Takings
+mod Tellings
